@@ -1,0 +1,11 @@
+pub mod Words
+pub mod Tables
+pub mod Digits
+pub mod Masks
+pub mod Codes
+pub mod Blocks
+pub mod Bounded
+pub mod Cuts
+pub mod Ordered
+pub mod Boards
+pub mod Straying

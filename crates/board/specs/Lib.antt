@@ -1,0 +1,10 @@
+pub mod Limits
+pub mod Morton
+pub mod CellOrder
+pub mod Squares
+pub mod Spans
+pub mod Measures
+pub mod Distances
+pub mod Lists
+pub mod Strays
+pub mod Findings

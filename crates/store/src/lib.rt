@@ -1,0 +1,2 @@
+// Stores: what is known of a set of cells, square by square.
+pub mod store;
