@@ -1,0 +1,25 @@
+# make run               builds filmdist and runs it on the sample films
+# make run A=.. B=..     the same on films of your own: A the scanned film, B the drawing
+# make test              the gate: proves every crate from nothing, tries the must-fail edits, runs every program and test
+
+.PHONY: run test
+
+A ?=
+B ?=
+
+run:
+	@echo "make run: proving and building filmdist (minutes the first time, seconds after that)" >&2
+	@rt check filmdist > .build.log 2>&1 || { cat .build.log >&2; rm -f .build.log; exit 1; }
+	@rm -f .build.log
+	@if [ -n "$(A)$(B)" ]; then \
+		sh examples/run.sh "$(A)" "$(B)"; \
+	else \
+		echo "examples/good.cells against examples/drawing.cells: distance, film cell x y, drawing cell x y" >&2; \
+		sh examples/run.sh examples/good.cells examples/drawing.cells; \
+		echo "examples/scratched.cells against examples/drawing.cells" >&2; \
+		sh examples/run.sh examples/scratched.cells examples/drawing.cells; \
+	fi
+
+test:
+	@echo "make test: the whole gate, from nothing; it takes some minutes and prints a line for each step" >&2
+	@bash .ci/run
