@@ -18,6 +18,7 @@ use scan::two_way::two_way;
 use std::error::AnyError;
 
 const FILM: [u32; 2] = [3, 28];
+
 const DRAWING: [u32; 2] = [9, 45];
 
 fn codes(rt: &LibcRuntime) -> Result<(), AnyError> {
@@ -33,11 +34,21 @@ fn shown(rt: &LibcRuntime, name: &str, found: Finding) -> Result<(), AnyError> {
     let d = found.distance;
     let film = found.film;
     let drawing = found.drawing;
-    println!(rt, "{name} {d} ({},{}) to ({},{})", film.x, film.y, drawing.x, drawing.y)?;
+    println!(
+        rt,
+        "{name} {d} ({},{}) to ({},{})",
+        film.x, film.y, drawing.x, drawing.y
+    )?;
     Ok(())
 }
 
-fn directed<M: Measure>(rt: &LibcRuntime, name: &str, a: &[u32], b: &[u32], m: &M) -> Result<(), AnyError> {
+fn directed<M: Measure>(
+    rt: &LibcRuntime,
+    name: &str,
+    a: &[u32],
+    b: &[u32],
+    m: &M,
+) -> Result<(), AnyError> {
     match scan(a, b, m) {
         Ok(found) => shown(rt, name, found),
         Err(fault) => {
@@ -65,7 +76,13 @@ fn lists(rt: &LibcRuntime) -> Result<(), AnyError> {
         let place = fault.place();
         println!(rt, "codes 5 5 refused {number} {place}")?;
     }
-    directed(rt, "disorder in B before empty A", &[], &[4, 9, 2], &Squared)?;
+    directed(
+        rt,
+        "disorder in B before empty A",
+        &[],
+        &[4, 9, 2],
+        &Squared,
+    )?;
     directed(rt, "empty A before empty B", &[], &[], &Squared)?;
     directed(rt, "empty B", &[7], &[], &Squared)
 }

@@ -47,7 +47,12 @@ fn on<T>(side: Side, result: Result<T, Failure<PartFault>>) -> Result<T, Failure
 }
 
 // How far the film A strays from the drawing B. All of A is read before B, and both before they are compared.
-pub fn compare_films<M: Measure>(heap: Global, a: &[u8], b: &[u8], m: &M) -> Result<Finding, Failure<JobFault>>
+pub fn compare_films<M: Measure>(
+    heap: Global,
+    a: &[u8],
+    b: &[u8],
+    m: &M,
+) -> Result<Finding, Failure<JobFault>>
     ensures strays_or_refused { λ r. ⌜ Compared (distance-of (M·Measure .amount (now (m .entry)))) (now (a .entry)) (now (b .entry)) r ⌝ }
 {
     let film = on(Side::Film, read_film(heap, a))?;

@@ -47,7 +47,11 @@ pub fn line(heap: Global, outcome: Result<Finding, JobFault>) -> Result<String, 
             let d = found.distance;
             let film = found.film;
             let drawing = found.drawing;
-            format!(heap, "{d} {} {} {} {}\n", film.x, film.y, drawing.x, drawing.y)
+            format!(
+                heap,
+                "{d} {} {} {} {}\n",
+                film.x, film.y, drawing.x, drawing.y
+            )
         }
         Err(refused) => {
             let side = letter(refused.side);

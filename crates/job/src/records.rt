@@ -1,4 +1,4 @@
-// Records: a cell as four bytes, x then y, 16 bits each, low byte first.
+// Records: a cell as four bytes, two for the column and two for the row, the low byte in front.
 ghost use mathlib.Core.Path.{_≡_};
 ghost use Rattle.job.specs.Records.{records, Sized, RecordsRefused, records-numbered};
 ghost use Rattle.std.specs.Of.Vec.{vec-items};

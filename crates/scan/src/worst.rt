@@ -14,10 +14,10 @@ use board::measure::Measure;
 
 // A cell of A and a cell of B, by their codes, and their distance.
 #[derive(Clone, Copy)]
-pub struct Pair {
-    pub distance: Amount,
-    pub film: u32,
-    pub drawing: u32,
+pub(crate) struct Pair {
+    pub(crate) distance: Amount,
+    pub(crate) film: u32,
+    pub(crate) drawing: u32,
 }
 
 // Whether d is no farther than low, where there is a low.
@@ -42,7 +42,7 @@ fn nearer(best: Option<Pair>, d: Amount) -> bool
 
 // The cell of A that is farthest from B, with its nearest cell of B; none where a list is empty.
 // A cell of A is left as soon as some cell of B is no farther than low.
-pub fn worst<M: Measure>(a: &[u32], b: &[u32], m: &M) -> Option<Pair>
+pub(crate) fn worst<M: Measure>(a: &[u32], b: &[u32], m: &M) -> Option<Pair>
     requires film_rises { ⌜ Rises (now a) ⌝ }
     requires drawing_rises { ⌜ Rises (now b) ⌝ }
     ensures { λ r. ⌜ Worst (distance-of (M·Measure .amount (now (m .entry)))) (now (a .entry)) (now (b .entry)) r ⌝ }
