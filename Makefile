@@ -2,15 +2,16 @@
 # make run A=.. B=..     the same on films of your own: A the scanned film, B the drawing
 # make test              the gate: proves every crate from nothing, tries the must-fail edits, runs every program and test
 
+SHELL := /bin/bash
+.SHELLFLAGS := -eu -o pipefail -c
 .PHONY: run test
 
 A ?=
 B ?=
 
 run:
-	@echo "make run: proving and building filmdist (minutes the first time, seconds after that)" >&2
-	@rt check filmdist > .build.log 2>&1 || { cat .build.log >&2; rm -f .build.log; exit 1; }
-	@rm -f .build.log
+	@echo "make run: proving and building filmdist; a minute or two the first time, seconds after that" >&2
+	@rt check filmdist 2>&1 | sed -n 's/^rt: /  /p' >&2 || { echo "not built: 'rt check filmdist' says why" >&2; exit 1; }
 	@if [ -n "$(A)$(B)" ]; then \
 		sh examples/run.sh "$(A)" "$(B)"; \
 	else \
@@ -21,5 +22,5 @@ run:
 	fi
 
 test:
-	@echo "make test: the whole gate, from nothing; it takes some minutes and prints a line for each step" >&2
+	@echo "make test: the whole gate, from nothing; it prints a line for each step, and how long that took" >&2
 	@bash .ci/run
