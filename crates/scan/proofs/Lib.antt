@@ -1,2 +1,3 @@
 pub mod Loops
+pub mod Turns
 pub mod Decoded
