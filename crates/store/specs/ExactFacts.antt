@@ -60,6 +60,12 @@ square-on-board l n k h j b =
     let f : parts ^ (top - l) ≡ parts ^ (top - (l + 1)) * parts = ap (λ x. parts ^ x) e ∙ pow-suc parts (top - (l + 1)) in
     (omega arith, omega arith)
 
+-- and a quarter is on the board where the square is
+pub quarter-on : (l n k : ℕ) → OnBoard (l + 1) n → k < parts → OnBoard l (parts * n + k)
+quarter-on l n k b j =
+    let i : l + 1 - 1 ≡ l = omega arith in
+    subst (λ x. OnBoard x (parts * n + k)) i (quarter-on-board (l + 1) n k b (omega arith) j)
+
 -- ---- the facts
 
 module _ (P : ℕ → Type 0) (t : ℕ → ℕ → Answer) (e : Exactly P t) where
@@ -81,8 +87,7 @@ module _ (P : ℕ → Type 0) (t : ℕ → ℕ → Answer) (e : Exactly P t) whe
         let c = s .1 .0 in
         let k = c / parts ^ l % parts in
         let j : k < parts = omega arith in
-        let i : l + 1 - 1 ≡ l = omega arith in
-        (k, j, e .shared l (parts * n + k) (subst (λ x. OnBoard x (parts * n + k)) i (quarter-on-board (l + 1) n k (s .0) (omega arith) j)) (c, s .1 .1, inward l n c (s .1 .2)));
+        (k, j, e .shared l (parts * n + k) (quarter-on l n k (s .0) j) (c, s .1 .1, inward l n c (s .1 .2)));
     off-board = λ l n f. else-empty l n (λ y. f (e .shown l n y .0));
   }
 
