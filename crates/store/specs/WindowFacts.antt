@@ -17,7 +17,10 @@ use Rattle.store.specs.Exact.{Shares, HoldsSet}
 use Rattle.store.specs.ExactFacts.{outward, cell-inside, quarter-on, square-on-board}
 use Rattle.store.specs.Places.{Placed}
 use Rattle.store.specs.PlaceFacts.{apart-from, across-from, within-from}
-use Rattle.store.specs.Windows.{blurred, seen-at, Sees}
+use Rattle.store.specs.declared.rectangle.Rectangle.{Rectangle}
+use Rattle.store.specs.Rectangles.{Covers, located}
+use Rattle.store.specs.RectangleFacts.{placed as located-so}
+use Rattle.store.specs.Windows.{blurred, seen-at, windowed, Sees}
 
 -- ---- answers
 
@@ -105,3 +108,8 @@ module _ (P : ℕ → Type 0) (p : ℕ → ℕ → Place) (placed : (l n : ℕ) 
         let a = subst (Placed P 0 c) (s .0) (placed 0 c) in
         (s .1, a .1 c (div-one c));
   }
+
+-- ---- the window of a rectangle
+
+pub windowed-facts : (r : Rectangle) (t : ℕ → ℕ → Answer) → StoreFacts t → StoreFacts (windowed r t)
+windowed-facts r t f = window-facts (Covers r) (located r) (located-so r) t f

@@ -1,3 +1,6 @@
 // Stores: what is known of a set of cells, square by square.
+pub mod either;
+pub mod list;
 pub mod rectangle;
 pub mod store;
+pub mod window;
