@@ -9,3 +9,4 @@ pub mod Windows
 pub mod WindowFacts
 pub mod Eithers
 pub mod EitherFacts
+pub mod Sound

@@ -2,5 +2,6 @@
 pub mod either;
 pub mod list;
 pub mod rectangle;
+pub mod sound;
 pub mod store;
 pub mod window;
