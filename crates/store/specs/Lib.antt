@@ -1,6 +1,7 @@
 pub mod Stores
 pub mod Exact
 pub mod ExactFacts
+pub mod BlockFacts
 pub mod Places
 pub mod PlaceFacts
 pub mod Rectangles

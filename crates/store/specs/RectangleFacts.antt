@@ -11,13 +11,13 @@ use Rattle.board.specs.Limits.{top, parts, codes}
 use Rattle.board.specs.Morton.{x-of, y-of, code}
 use Rattle.board.specs.Spans.{first, last, Lies}
 use Rattle.board.specs.Squares.{OnBoard, Inside}
-use Rattle.board.proofs.Blocks.{squares-are-blocks}
 use Rattle.board.proofs.Codes.{codes-are-exact}
 use Rattle.store.specs.declared.rectangle.Place.{Place}
 use Rattle.store.specs.declared.rectangle.Place.the-variants.{Apart, Across, Within}
 use Rattle.store.specs.declared.rectangle.Rectangle.{Rectangle}
 use Rattle.store.specs.Stores.{StoreFacts}
 use Rattle.store.specs.Exact.{Shares, Exactly, on-board}
+use Rattle.store.specs.BlockFacts.{columns-ordered, rows-ordered, cell-of, ends-of}
 use Rattle.store.specs.ExactFacts.{decides-on-board, facts-of}
 use Rattle.store.specs.Places.{Placed}
 use Rattle.store.specs.PlaceFacts.{exactly-placed}
@@ -47,36 +47,6 @@ lies-within a b c d v m p q =
 pub value-outside : (a b c d : ℕ) → a ≤ b → lies a b c d ≡ false → (v : ℕ) × (a ≤ v) × (v ≤ b) × (((c ≤ v) × (v ≤ d)) → ⊥)
 value-outside a b c d h m =
     ⊎-elim (λ f. let x = leb-false c a f in (a, omega arith, h, λ z. omega arith)) (λ f. let x = leb-false b d f in (b, h, omega arith, λ z. omega arith)) (and-cases (leb c a) (leb b d) m)
-
--- ---- cells of a square of the board
-
-module _ (l n : ℕ) (b : OnBoard l n) where
-  columns-ordered : first l (x-of n) ≤ last l (x-of n)
-  columns-ordered = let w = squares-are-blocks .west l n b in let e = squares-are-blocks .east l n b in omega arith
-
-  rows-ordered : first l (y-of n) ≤ last l (y-of n)
-  rows-ordered = let w = squares-are-blocks .south l n b in let e = squares-are-blocks .north l n b in omega arith
-
-  -- a column and a row of the square make a cell of it
-  cell-of : (x y : ℕ) → first l (x-of n) ≤ x → x ≤ last l (x-of n) → first l (y-of n) ≤ y → y ≤ last l (y-of n) → Inside l n (code x y)
-  cell-of x y p q r s =
-      let west = squares-are-blocks .west l n b in
-      let east = squares-are-blocks .east l n b in
-      let south = squares-are-blocks .south l n b in
-      let north = squares-are-blocks .north l n b in
-      let column = codes-are-exact .column x y in
-      let row = codes-are-exact .row x y in
-      squares-are-blocks .only l n (code x y) (omega arith, omega arith, omega arith, omega arith)
-
-  -- a cell of the square lies in its columns and rows
-  ends-of : (c : ℕ) → Inside l n c → (first l (x-of n) ≤ x-of c) × (x-of c ≤ last l (x-of n)) × (first l (y-of n) ≤ y-of c) × (y-of c ≤ last l (y-of n))
-  ends-of c i =
-      let west = squares-are-blocks .west l n b in
-      let east = squares-are-blocks .east l n b in
-      let south = squares-are-blocks .south l n b in
-      let north = squares-are-blocks .north l n b in
-      let h = squares-are-blocks .inside l n c i in
-      (omega arith, omega arith, omega arith, omega arith)
 
 -- ---- where a square lies
 

@@ -36,6 +36,11 @@ rectangle-numbered SouthAboveNorth = (14, 0)
 abbrev pub Refuses : ℕ → ℕ → ℕ → ℕ → ℕ × ℕ → Type 0
 Refuses west south east north f = ((east < west) ⊎ (north < south)) × (f ≡ (14, 0))
 
+-- what each fault says of the ends; west and east are looked at first
+abbrev pub OutOfOrder : ℕ → ℕ → ℕ → ℕ → RectangleFault → Type 0
+OutOfOrder west south east north WestAboveEast = east < west
+OutOfOrder west south east north SouthAboveNorth = (west ≤ east) × (north < south)
+
 -- the span from a to b shares a value with the one from c to d
 abbrev pub meets : ℕ → ℕ → ℕ → ℕ → Bool
 meets a b c d = leb a d && leb c b

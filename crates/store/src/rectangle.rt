@@ -6,7 +6,7 @@ ghost use Rattle.std.specs.Results.{Cases};
 ghost use Rattle.store.specs.Exact.{Exactly, HoldsSet};
 ghost use Rattle.store.specs.Places.{Placed};
 ghost use Rattle.store.specs.RectangleFacts.{rectangle-facts};
-ghost use Rattle.store.specs.Rectangles.{Covers, Ends, Refuses, both-axes, filled, lies, located, meets, rectangle-numbered};
+ghost use Rattle.store.specs.Rectangles.{Covers, Ends, OutOfOrder, Refuses, both-axes, filled, lies, located, meets, rectangle-numbered};
 ghost use Rattle.store.specs.Stores.{Holds, StoreFacts};
 use crate::store::Answer;
 use crate::store::Store;
@@ -73,6 +73,7 @@ impl Rectangle {
     // All cells from west to east and from south to north.
     pub fn new(west: u16, south: u16, east: u16, north: u16) -> Result<Rectangle, RectangleFault>
         ensures ends_or_refused { λ r. ⌜ Cases r (Ends west south east north) (λ f. Refuses west south east north (rectangle-numbered f)) ⌝ }
+        ensures says_which { λ r. ⌜ Cases r (λ _. Unit {0}) (OutOfOrder west south east north) ⌝ }
         ensures exact { λ r. ⌜ Cases r (λ k. Exactly (Covers k) (filled k)) (λ _. Unit {0}) ⌝ }
         ensures holds_its_cells { λ r. ⌜ Cases r (λ k. HoldsSet (Covers k) (filled k)) (λ _. Unit {0}) ⌝ }
     {
