@@ -1,6 +1,6 @@
 -- The tests of a query of a rectangle, and the place that they give.
-use mathlib.Core.Bool.{Bool, true, false, _&&_, cond}
-use mathlib.Core.Path.{_≡_, refl, sym, ap, ap₂, subst, _∙_}
+use mathlib.Core.Bool.{Bool, _&&_, cond}
+use mathlib.Core.Path.{_≡_, sym, ap₂, subst, _∙_}
 use Prim.Native.Nat.{ℕ}
 use Rattle.board.specs.Morton.{x-of, y-of}
 use Rattle.board.specs.Spans.{first, last}
@@ -8,7 +8,6 @@ use Rattle.board.specs.Squares.{OnBoard}
 use Rattle.store.specs.declared.rectangle.Place.{Place}
 use Rattle.store.specs.declared.rectangle.Place.the-variants.{Apart, Across, Within}
 use Rattle.store.specs.declared.rectangle.Rectangle.{Rectangle}
-use Rattle.store.specs.Exact.{on-board}
 use Rattle.store.specs.ExactFacts.{decides-on-board}
 use Rattle.store.specs.Places.{Placed}
 use Rattle.store.specs.PlaceFacts.{apart-from}

@@ -3,13 +3,12 @@ use mathlib.Core.Logic.{⊎-elim}
 use mathlib.Core.Path.{_≡_, refl, sym, ap, subst, _∙_}
 use Prim.Native.Nat.{ℕ, zero, suc, _+_, _-_, _*_, _/_, _%_, _^_, _<_, _≤_}
 use native.Mathlib.Nat.{div-one}
-use native.Mathlib.Numerals.{add-one}
 use native.Mathlib.Omega.{arith}
 use lib.Pow.{pow-add}
 use Rattle.std.proofs.shelf.Bits.{div-below}
 use Rattle.std.proofs.shelf.Tests.{cases-bool}
 use Rattle.std.proofs.shelf.Ways.{not-from-decides}
-use Rattle.board.specs.Limits.{top, parts, codes}
+use Rattle.board.specs.Limits.{top, parts}
 use Rattle.board.specs.Squares.{OnBoard, Inside}
 use Rattle.board.proofs.Boards.{four-positive}
 use Rattle.store.specs.declared.store.Answer.{Answer}

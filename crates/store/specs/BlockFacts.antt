@@ -1,5 +1,4 @@
 -- The cells of a square of the board, by its columns and rows: what the proofs of stores that go by columns and rows build on.
-use mathlib.Core.Path.{_≡_}
 use Prim.Native.Nat.{ℕ, _≤_}
 use native.Mathlib.Omega.{arith}
 use Rattle.board.specs.Morton.{x-of, y-of, code}

@@ -3,7 +3,7 @@ use mathlib.Core.Bool.{Bool, true, false, _&&_, cond}
 use mathlib.Core.List.{List, [], _∷_}
 use mathlib.Core.Logic.{_⊎_, inl, inr, ⊎-elim}
 use mathlib.Core.Path.{_≡_, refl, sym, ap, subst, _∙_}
-use Prim.Native.Nat.{ℕ, zero, suc, _+_, _-_, _*_, _/_, _%_, _^_, _<_, _≤_}
+use Prim.Native.Nat.{ℕ, zero, suc, _+_, _-_, _*_, _/_, _%_, _^_, _<_}
 use native.Mathlib.Nat.{div-div-eq-div-mul, div-one, pow-suc}
 use native.Mathlib.Numerals.{add-one}
 use native.Mathlib.Omega.{arith}
@@ -12,13 +12,13 @@ use lib.ListN.{length, getD}
 use Rattle.std.specs.Orderings.{Decides}
 use Rattle.std.proofs.shelf.Tests.{true≢false, leb-true, le-leb, eqb-true, eq-eqb, or-cases, or-left, or-right, and-parts, and-from, and-left, cases-bool, cond-true, cond-false}
 use Rattle.std.proofs.shelf.Ways.{decides-and, decides-ltb}
-use Rattle.board.specs.Limits.{top, parts, codes}
+use Rattle.board.specs.Limits.{top, parts}
 use Rattle.board.specs.Lists.{Has}
 use Rattle.board.specs.Squares.{OnBoard, Inside}
 use Rattle.board.proofs.Boards.{quarter-on-board}
 use Rattle.store.specs.declared.store.Answer.{Answer}
 use Rattle.store.specs.declared.store.Answer.the-variants.{Empty, Occupied, Unknown}
-use Rattle.store.specs.Stores.{counts, Counts, Holds, StoreFacts}
+use Rattle.store.specs.Stores.{counts, Counts, StoreFacts}
 use Rattle.store.specs.Exact.{Shares, HoldsSet, Exactly, on-board, tested, occupied, exact}
 
 -- ---- answers

@@ -1,19 +1,15 @@
 -- A rectangle places each square by its cells, and so is an exact store.
-use mathlib.Core.Bool.{Bool, true, false, _&&_, cond}
-use mathlib.Core.Logic.{_⊎_, inl, inr, ⊎-elim}
-use mathlib.Core.Path.{_≡_, refl, sym, ap, subst, _∙_}
-use Prim.Native.Nat.{ℕ, zero, suc, _+_, _-_, _*_, _/_, _%_, _^_, _<_, _≤_, min, max}
+use mathlib.Core.Bool.{true, false, _&&_}
+use mathlib.Core.Logic.{inl, inr, ⊎-elim}
+use mathlib.Core.Path.{_≡_, sym, subst, _∙_}
+use Prim.Native.Nat.{ℕ, _≤_, max}
 use native.Mathlib.Omega.{arith}
 use lib.Dec.{leb}
-use Rattle.std.specs.Orderings.{Decides}
-use Rattle.std.proofs.shelf.Tests.{true≢false, leb-true, le-leb, leb-false, and-parts, and-from, and-cases, cases-bool, cond-true, cond-false}
-use Rattle.board.specs.Limits.{top, parts, codes}
+use Rattle.std.proofs.shelf.Tests.{true≢false, leb-true, le-leb, leb-false, and-parts, and-from, and-cases, cases-bool}
 use Rattle.board.specs.Morton.{x-of, y-of, code}
-use Rattle.board.specs.Spans.{first, last, Lies}
+use Rattle.board.specs.Spans.{first, last}
 use Rattle.board.specs.Squares.{OnBoard, Inside}
 use Rattle.board.proofs.Codes.{codes-are-exact}
-use Rattle.store.specs.declared.rectangle.Place.{Place}
-use Rattle.store.specs.declared.rectangle.Place.the-variants.{Apart, Across, Within}
 use Rattle.store.specs.declared.rectangle.Rectangle.{Rectangle}
 use Rattle.store.specs.Stores.{StoreFacts}
 use Rattle.store.specs.Exact.{Shares, Exactly, on-board}

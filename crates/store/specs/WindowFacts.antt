@@ -1,18 +1,17 @@
 -- What a window owes: proved once, for any set of cells and any store below.
-use mathlib.Core.Bool.{true, false}
 use mathlib.Core.Logic.{_⊎_, inl, inr, ⊎-elim}
 use mathlib.Core.Path.{_≡_, refl, sym, ap, subst, _∙_}
-use Prim.Native.Nat.{ℕ, _+_, _*_, _^_, _<_, _≤_}
+use Prim.Native.Nat.{ℕ, _+_, _*_}
 use native.Mathlib.Nat.{div-one}
 use native.Mathlib.Omega.{arith}
 use Rattle.std.proofs.shelf.Tests.{false≢true}
-use Rattle.board.specs.Limits.{top, parts, codes}
-use Rattle.board.specs.Squares.{OnBoard, Inside}
+use Rattle.board.specs.Limits.{parts}
+use Rattle.board.specs.Squares.{OnBoard}
 use Rattle.store.specs.declared.rectangle.Place.{Place}
 use Rattle.store.specs.declared.rectangle.Place.the-variants.{Apart, Across, Within}
 use Rattle.store.specs.declared.store.Answer.{Answer}
 use Rattle.store.specs.declared.store.Answer.the-variants.{Empty, Occupied, Unknown}
-use Rattle.store.specs.Stores.{counts, Counts, Holds, StoreFacts}
+use Rattle.store.specs.Stores.{Counts, Holds, StoreFacts}
 use Rattle.store.specs.Exact.{Shares, HoldsSet}
 use Rattle.store.specs.ExactFacts.{outward, cell-inside, quarter-on, square-on-board}
 use Rattle.store.specs.Places.{Placed}

@@ -1,7 +1,6 @@
 // Lists of codes as stores.
 ghost use denote.Ref.{now};
 ghost use lib.ListN.{length, getD};
-ghost use mathlib.Core.Bool.{true};
 ghost use mathlib.Core.List.{[]};
 ghost use mathlib.Core.Path.{_≡_};
 ghost use Prim.Native.Nat.{ℕ, _<_, _≤_};

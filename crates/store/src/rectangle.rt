@@ -1,6 +1,6 @@
 // Rectangles of cells, and where a square lies to one.
 ghost use mathlib.Core.Path.{_≡_};
-ghost use Prim.Native.Nat.{ℕ, _<_, _≤_};
+ghost use Prim.Native.Nat.{ℕ, _<_};
 ghost use Rattle.board.specs.Limits.{codes, edge};
 ghost use Rattle.std.specs.Results.{Cases};
 ghost use Rattle.store.specs.Exact.{Exactly, HoldsSet};

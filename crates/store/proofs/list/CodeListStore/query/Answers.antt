@@ -1,8 +1,7 @@
 use native.Mathlib.Omega.{arith}
-use mathlib.Core.Path.{_≡_, sym, ap, subst, _∙_}
-use Prim.Native.Nat.{ℕ, _*_, _/_, _^_, _<_, _≤_}
+use mathlib.Core.Path.{sym, ap, subst, _∙_}
+use Prim.Native.Nat.{_/_, _<_, _≤_}
 use lib.ListN.{length, getD}
-use Rattle.board.specs.Limits.{parts}
 use Rattle.board.specs.Squares.{Inside}
 use Rattle.board.proofs.Boards.{four-power}
 use Rattle.store.proofs.Listed.{found, missing}

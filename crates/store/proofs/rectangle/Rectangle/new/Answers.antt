@@ -1,4 +1,3 @@
-use Rattle.store.specs.Rectangles.{Covers, filled}
 use Rattle.store.specs.ExactFacts.{set-of}
 use Rattle.store.specs.RectangleFacts.{exactly-rectangle}
 use mathlib.Core.Path.{refl}
