@@ -1,5 +1,11 @@
 // Piles of stores, shown square by square on the eight by eight cells of the southwest corner:
 // what each store answers, and how many cells of the square it holds when its cells are asked one by one.
+ghost use mathlib.Core.Logic.{_⊎_};
+ghost use Rattle.board.specs.Lists.{Has};
+ghost use Rattle.store.specs.Eithers.{joined};
+ghost use Rattle.store.specs.Exact.{HoldsSet, exact};
+ghost use Rattle.store.specs.Rectangles.{Covers, filled};
+ghost use Rattle.store.specs.Windows.{windowed};
 use board::cell::Cell;
 use board::list::ListRefusal as _;
 use board::refusal::Refusal;
@@ -32,6 +38,16 @@ static CODES: [u32; 7] = [0, 3, 9, 28, 45, 54, 63];
 
 // Codes that are refused; the list then stays as it was.
 static EQUAL: [u32; 3] = [4, 9, 9];
+
+// A window over an either over a list and a window of a rectangle.
+type Pile<'a> = Window<Either<CodeList<'a>, Window<Rectangle>>>;
+
+// It holds the codes of the list and the cells of inner that frame has, where outer has them.
+fn pile_up<'a>(outer: Rectangle, list: CodeList<'a>, frame: Rectangle, inner: Rectangle) -> Pile<'a>
+    ensures holds { λ r. ⌜ HoldsSet (λ c. (Has (now (list .entry .codes)) c ⊎ (Covers inner c × Covers frame c)) × Covers outer c) (windowed (r .rectangle) (joined (exact (now (r .store .first .codes))) (windowed (r .store .second .rectangle) (filled (r .store .second .store))))) ⌝ }
+{
+    Window::over(outer, Either::of(list, Window::over(frame, inner)))
+}
 
 fn letter(answer: Answer) -> char {
     match answer {
@@ -142,11 +158,10 @@ fn run(rt: &LibcRuntime) -> Result<(), AnyError> {
     let frame = rectangle(rt, 2, 2, 4, 7)?;
     let outer = rectangle(rt, 1, 1, 6, 5)?;
     show(rt, "rectangle", &inner)?;
-    let film = Either::of(list, Window::over(frame, inner));
     show(
         rt,
         "window over an either over a list and a window of a rectangle",
-        &Window::over(outer, film),
+        &pile_up(outer, list, frame, inner),
     )?;
     let Some(stripes) = Stripes::new(3) else {
         return Err("no stripes".into());

@@ -17,6 +17,7 @@ pub struct Either<S1, S2> {
 }
 
 impl<S1: Store, S2: Store> Either<S1, S2> {
+    // The cells of both.
     pub fn of(first: S1, second: S2) -> Either<S1, S2>
         ensures keeps_both { λ r. ⌜ (r .first ≡ first) × (r .second ≡ second) ⌝ }
         ensures answers_for_both { λ r. ⌜ Joins (S1·Store .answers first) (S2·Store .answers second) (joined (S1·Store .answers (r .first)) (S2·Store .answers (r .second))) ⌝ }
@@ -37,6 +38,7 @@ fn join(first: Answer, second: Answer) -> Answer
     }
 }
 
+// The second is asked only where the first does not say that a cell is held.
 pub impl<S1: Store, S2: Store> Store for Either<S1, S2> as EitherStore {
     ghost answers = { λ e. joined (S1·Store .answers (e .first)) (S2·Store .answers (e .second)) };
 

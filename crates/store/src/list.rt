@@ -56,6 +56,7 @@ fn place_of(codes: &[u32], code: u32) -> usize
     }
 }
 
+// The first code that is not below the square is one of its codes, or none is.
 pub impl Store for CodeList<'_> as CodeListStore {
     ghost answers = { λ s. exact (now (s .codes)) };
 

@@ -29,10 +29,12 @@ impl Answer {
     }
 }
 
+// What is known of a set of cells, square by square.
 pub trait Store {
     // the table of answers: by level and number
     ghost answers: { Self → ℕ → ℕ → Answer };
 
+    // the proof that the table keeps to what every store owes
     ghost facts: { (s : Self) → StoreFacts (answers s) };
 
     // Reads the table; it is never refused, and changes nothing.

@@ -19,6 +19,7 @@ pub struct Window<S> {
 }
 
 impl<S: Store> Window<S> {
+    // The cells of the store that the rectangle has.
     pub fn over(rectangle: Rectangle, store: S) -> Window<S>
         ensures keeps_both { λ r. ⌜ (r .rectangle ≡ rectangle) × (r .store ≡ store) ⌝ }
         ensures answers_by_place { λ r. ⌜ Sees (Covers rectangle) (S·Store .answers store) (windowed (r .rectangle) (S·Store .answers (r .store))) ⌝ }
@@ -38,6 +39,7 @@ fn across(below: Answer) -> Answer
     }
 }
 
+// Inside it answers as below, outside it is empty, and across the edge it knows only what is empty below.
 pub impl<S: Store> Store for Window<S> as WindowStore {
     ghost answers = { λ w. windowed (w .rectangle) (S·Store .answers (w .store)) };
 
