@@ -1,0 +1,7 @@
+pub mod Bitmaps
+pub mod Laws
+pub mod Reader
+pub mod Faults
+pub mod Openings
+pub mod Held
+pub mod Writing
