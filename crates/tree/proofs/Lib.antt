@@ -17,3 +17,4 @@ mod Sizes
 mod Blocks
 mod Hollows
 mod Refusing
+mod Accepting

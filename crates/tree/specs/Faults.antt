@@ -67,7 +67,7 @@ pub data TreeBreaks (height : ℕ) (t : List ℕ) (bits-of-T : ℕ) (l : List �
   spare-L : n ≡ 5 → p ≡ 1 → (Spared l bits-of-L → ⊥) → TreeBreaks height t bits-of-T l bits-of-L counts n p
   short : n ≡ 6 → p ≡ length counts → length counts ≤ bits-of-T / spacing → TreeBreaks height t bits-of-T l bits-of-L counts n p
   wrong : n ≡ 6 → bits-of-T / spacing < length counts → p ≤ bits-of-T / spacing → (getD counts p 0 ≡ ones-before t (spacing * p) → ⊥)
-    → TreeBreaks height t bits-of-T l bits-of-L counts n p
+      → TreeBreaks height t bits-of-T l bits-of-L counts n p
 
 -- a bitmap that is to take so many bits has too few bytes, or they are too many
 abbrev pub Cramped : List ℕ → ℕ → Type 0

@@ -6,9 +6,9 @@ ghost use Rattle.std.specs.Options.{Cases as BySome};
 ghost use Rattle.std.specs.Results.{Cases};
 ghost use Rattle.tree.specs.Faults.{DirectoryBreaks, First, tree-numbered};
 ghost use Rattle.tree.specs.Reader.{Bitmap, Directory, ones-before, spacing};
+use crate::bitmaps::SPACING;
 use crate::bitmaps::is_bitmap;
 use crate::bitmaps::ones_of_bytes;
-use crate::bitmaps::SPACING;
 use crate::fault::TreeFault;
 
 // How many bytes of T stand between two counts.

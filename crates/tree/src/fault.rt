@@ -47,7 +47,10 @@ pub impl Refusal for TreeFault as TreeRefusal {
 
     fn place(&self) -> usize {
         match *self {
-            TreeFault::Height | TreeFault::Size | TreeFault::Levels | TreeFault::SpareBit(Part::T) => 0,
+            TreeFault::Height
+            | TreeFault::Size
+            | TreeFault::Levels
+            | TreeFault::SpareBit(Part::T) => 0,
             TreeFault::SpareBit(Part::L) => 1,
             TreeFault::EmptyBlock(place) => place,
             TreeFault::ShortDirectory(place) => place,

@@ -6,16 +6,19 @@ ghost use Prim.Native.Nat.{ℕ, _+_, _-_, _*_, _/_, _%_, _^_, _<_, _≤_};
 ghost use lib.ListN.{length, getD};
 ghost use Rattle.std.specs.Options.{Cases as BySome};
 ghost use Rattle.std.specs.Orderings.{Decides};
-ghost use Rattle.std.specs.Results.{Cases};
+ghost use Rattle.std.specs.Results.{Cases, isOk};
 ghost use Rattle.tree.specs.Bitmaps.{All-filled-below, bits, Filled, Sized};
 ghost use Rattle.tree.specs.Faults.{First, Hollow, TreeBreaks, tree-numbered};
-ghost use Rattle.tree.specs.Held.{cells-of};
-ghost use Rattle.tree.specs.Openings.{Opens};
+ghost use Rattle.tree.specs.Held.{cells-of, Reads};
+ghost use Rattle.tree.specs.Laws.{One-tree};
+ghost use Rattle.store.specs.Exact.{exact, Exactly};
+ghost use Rattle.board.specs.Lists.{Has};
+ghost use Rattle.tree.specs.Openings.{BitsOf, Opens};
 ghost use Rattle.tree.specs.Reader.{Bitmap, Directory, ones-before, Spared};
+use crate::bitmaps::SPACING;
 use crate::bitmaps::is_bitmap;
 use crate::bitmaps::ones_between;
 use crate::bitmaps::spares_clear;
-use crate::bitmaps::SPACING;
 use crate::directory::first_wrong;
 use crate::fault::Part;
 use crate::fault::TreeFault;
@@ -84,7 +87,14 @@ fn first_hollow(t: &[u8], t_bits: usize, l: &[u8], l_bits: usize) -> Option<usiz
 }
 
 // The checks of a tree, in their order.
-pub(crate) fn check_tree(height: u8, t: &[u8], t_bits: usize, l: &[u8], l_bits: usize, counts: &[u32]) -> Result<(), TreeFault>
+pub(crate) fn check_tree(
+    height: u8,
+    t: &[u8],
+    t_bits: usize,
+    l: &[u8],
+    l_bits: usize,
+    counts: &[u32],
+) -> Result<(), TreeFault>
     ensures { λ r. ⌜ Cases r (λ _. Opens height (now (t .entry)) «t_bits» (now (l .entry)) «l_bits» (now (counts .entry))) (λ f. First (TreeBreaks height (now (t .entry)) «t_bits» (now (l .entry)) «l_bits» (now (counts .entry))) (tree-numbered f)) ⌝ }
 {
     if height == 0 || height > TOP {
@@ -127,5 +137,30 @@ impl<'a> Tree<'a> {
             t_bits: 0,
             l_bits: 4,
         }
+    }
+
+    // Takes over a tree from outside, once it has passed its checks; refused, the reader is as before.
+    pub fn open(
+        &mut self,
+        height: u8,
+        t: &'a [u8],
+        t_bits: usize,
+        l: &'a [u8],
+        l_bits: usize,
+        counts: &'a [u32],
+    ) -> Result<(), TreeFault>
+        ensures opened_or_refused { λ r. ⌜ Cases r (λ _. Opens height (now (t .entry)) «t_bits» (now (l .entry)) «l_bits» (now (counts .entry)) × Reads (now (self .exit)) height (bits (now (t .entry)) «t_bits») (bits (now (l .entry)) «l_bits»)) (λ f. First (TreeBreaks height (now (t .entry)) «t_bits» (now (l .entry)) «l_bits» (now (counts .entry))) (tree-numbered f) × (now (self .exit) ≡ now (self .entry))) ⌝ }
+        ensures accepts_the_bits_of_sets { λ r. ⌜ Decides (isOk r) ((codes : List ℕ) × BitsOf codes height (now (t .entry)) «t_bits» (now (l .entry)) «l_bits» (now (counts .entry))) ⌝ }
+        ensures then_holds_that_set { λ _. ⌜ ((codes : List ℕ) → BitsOf codes height (now (t .entry)) «t_bits» (now (l .entry)) «l_bits» (now (counts .entry)) → (cells-of (now (self .exit)) ≡ codes) × Exactly (Has codes) (exact (cells-of (now (self .exit))))) ⌝ }
+        ensures same_cells_same_bits { λ _. ⌜ One-tree ⌝ }
+    {
+        check_tree(height, t, t_bits, l, l_bits, counts)?;
+        self.t = t;
+        self.l = l;
+        self.counts = counts;
+        self.height = height;
+        self.t_bits = t_bits;
+        self.l_bits = l_bits;
+        Ok(())
     }
 }
