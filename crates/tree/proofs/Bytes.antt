@@ -111,7 +111,7 @@ module _ (bytes : List ℕ) (n : ℕ) where
 one-more : (x e : ℕ) → x / 2 ^ suc e ≡ x / 2 ^ e / 2
 one-more x e = ap (λ k. x / k) (pow-suc 2 e) ∙ sym (div-div-eq-div-mul x (2 ^ e) 2)
 
-none-behind : (x e d : ℕ) → x / 2 ^ e ≡ 0 → x / 2 ^ (e + d) ≡ 0
+pub none-behind : (x e d : ℕ) → x / 2 ^ e ≡ 0 → x / 2 ^ (e + d) ≡ 0
 none-behind x e zero z = let k : e + 0 ≡ e = omega arith in ap (λ j. x / 2 ^ j) k ∙ z
 none-behind x e (suc d) z =
     let k : e + suc d ≡ suc (e + d) = omega arith in

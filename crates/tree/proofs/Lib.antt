@@ -18,3 +18,5 @@ mod Blocks
 mod Hollows
 mod Refusing
 mod Accepting
+mod Listing
+mod Inscribing

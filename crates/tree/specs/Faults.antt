@@ -69,14 +69,14 @@ pub data TreeBreaks (height : ℕ) (t : List ℕ) (bits-of-T : ℕ) (l : List �
   wrong : n ≡ 6 → bits-of-T / spacing < length counts → p ≤ bits-of-T / spacing → (getD counts p 0 ≡ ones-before t (spacing * p) → ⊥)
       → TreeBreaks height t bits-of-T l bits-of-L counts n p
 
--- a bitmap that is to take so many bits has too few bytes, or they are too many
-abbrev pub Cramped : List ℕ → ℕ → Type 0
-Cramped out n = (8 * length out < n) ⊎ (most-bits < n)
+-- so many bytes are too few for so many bits, or the bits are too many
+abbrev pub Cramped : ℕ → ℕ → Type 0
+Cramped bytes n = (8 * bytes < n) ⊎ (most-bits < n)
 
--- the rules for writing a tree: rule n is broken at place p
-pub data WriterBreaks (codes : List ℕ) (height : ℕ) (t l : List ℕ) (n p : ℕ) : Type 0 where
-  height : n ≡ 1 → p ≡ 0 → (High height → ⊥) → WriterBreaks codes height t l n p
-  list : ListRefused codes (n, p) → WriterBreaks codes height t l n p
-  large : n ≡ 8 → p < length codes → parts ^ height ≤ getD codes p 0 → WriterBreaks codes height t l n p
-  room-T : n ≡ 9 → p ≡ 0 → Cramped t (length (encode-T height codes)) → WriterBreaks codes height t l n p
-  room-L : n ≡ 9 → p ≡ 1 → Cramped l (length (encode-L height codes)) → WriterBreaks codes height t l n p
+-- the rules for writing a tree into buffers of so many bytes: rule n is broken at place p
+pub data WriterBreaks (codes : List ℕ) (height bytes-of-T bytes-of-L n p : ℕ) : Type 0 where
+  height : n ≡ 1 → p ≡ 0 → (High height → ⊥) → WriterBreaks codes height bytes-of-T bytes-of-L n p
+  list : ListRefused codes (n, p) → WriterBreaks codes height bytes-of-T bytes-of-L n p
+  large : n ≡ 8 → p < length codes → parts ^ height ≤ getD codes p 0 → WriterBreaks codes height bytes-of-T bytes-of-L n p
+  room-T : n ≡ 9 → p ≡ 0 → Cramped bytes-of-T (length (encode-T height codes)) → WriterBreaks codes height bytes-of-T bytes-of-L n p
+  room-L : n ≡ 9 → p ≡ 1 → Cramped bytes-of-L (length (encode-L height codes)) → WriterBreaks codes height bytes-of-T bytes-of-L n p
