@@ -19,4 +19,5 @@ mod Hollows
 mod Refusing
 mod Accepting
 mod Listing
+mod Tallying
 mod Inscribing

@@ -4,4 +4,5 @@ pub mod Reader
 pub mod Faults
 pub mod Openings
 pub mod Held
+pub mod Tallies
 pub mod Writing

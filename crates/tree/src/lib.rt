@@ -5,6 +5,7 @@ pub mod fault;
 mod opening;
 mod query;
 pub mod reader;
+mod tally;
 pub mod writer;
 
 ghost use mathlib.Core.Path.{_≡_};
