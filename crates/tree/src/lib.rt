@@ -3,7 +3,7 @@ mod bitmaps;
 pub mod directory;
 pub mod fault;
 mod opening;
-mod query;
+pub mod query;
 pub mod reader;
 mod tally;
 pub mod writer;
