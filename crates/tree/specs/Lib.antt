@@ -6,3 +6,4 @@ pub mod Openings
 pub mod Held
 pub mod Tallies
 pub mod Writing
+pub mod Worked
