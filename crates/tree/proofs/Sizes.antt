@@ -82,12 +82,9 @@ module _ (t : List ℕ) (tn : ℕ) (l : List Bool) where
 
 -- one count more
 module _ (t counts old : List ℕ) (part total r : ℕ) (fits : part + 1 < length counts) (is : total ≡ ones-before t (512 * part))
-    (ensured : ones-before t (8 * (64 * part)) + r ≡ ones-before t (8 * (64 * part + 64))) where
+    (ensured : ones-before t (512 * part) + r ≡ ones-before t (512 * (part + 1))) where
   pub total-more : total + r ≡ ones-before t (512 * (part + 1))
-  total-more =
-      let a : 8 * (64 * part) ≡ 512 * part = omega arith in
-      let b : 8 * (64 * part + 64) ≡ 512 * (part + 1) = omega arith in
-      ap (λ x. x + r) (is ∙ ap (ones-before t) (sym a)) ∙ ensured ∙ ap (ones-before t) b
+  total-more = ap (λ x. x + r) is ∙ ensured
 
   pub counts-more : ((j : ℕ) → j ≤ part → getD counts j 0 ≡ ones-before t (512 * j)) → (j : ℕ) → j ≤ part + 1 → getD (set counts (part + 1) (total + r)) j 0 ≡ ones-before t (512 * j)
   counts-more f j h = go (cases-eq j (part + 1))

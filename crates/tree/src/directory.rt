@@ -14,6 +14,14 @@ use crate::fault::TreeFault;
 // How many bytes of T stand between two counts.
 const STEP: usize = 64;
 
+// How many bits are 1 between one count and the next.
+fn ones_of_step(t: &[u8], t_bits: usize, part: usize) -> usize
+    requires { ⌜ Bitmap (now t) «t_bits» ⌝ ∗ ⌜ part < «t_bits» / spacing ⌝ }
+    ensures { λ r. ⌜ ones-before (now (t .entry)) (spacing * part) + r ≡ ones-before (now (t .entry)) (spacing * (part + 1)) ⌝ }
+{
+    ones_of_bytes(t, STEP * part, STEP * part + STEP)
+}
+
 // Fills a directory that is long enough.
 fn fill_counts(t: &[u8], t_bits: usize, counts: &mut [u32])
     requires upper { ⌜ Bitmap (now t) «t_bits» ⌝ }
@@ -24,7 +32,7 @@ fn fill_counts(t: &[u8], t_bits: usize, counts: &mut [u32])
     let mut total = 0usize;
     counts[0] = 0;
     for part in 0..t_bits / SPACING {
-        total += ones_of_bytes(t, STEP * part, STEP * part + STEP);
+        total += ones_of_step(t, t_bits, part);
         counts[part + 1] = total as u32;
     }
 }
@@ -58,7 +66,7 @@ pub(crate) fn first_wrong(t: &[u8], t_bits: usize, counts: &[u32]) -> Option<usi
     }
     let mut total = 0usize;
     for part in 0..t_bits / SPACING {
-        total += ones_of_bytes(t, STEP * part, STEP * part + STEP);
+        total += ones_of_step(t, t_bits, part);
         if counts[part + 1] as usize != total {
             return Some(part + 1);
         }

@@ -1,6 +1,6 @@
 // The cells of a store, in order, found by asking for squares.
-use board::square::Square;
 use board::square::PARTS;
+use board::square::Square;
 use board::square::TOP;
 use std::alloc::AllocError;
 use std::alloc::Global;

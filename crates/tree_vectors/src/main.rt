@@ -3,8 +3,8 @@
 mod cells;
 mod text;
 
-use cells::cells_of;
 use board::refusal::Refusal;
+use cells::cells_of;
 use std::alloc::Global;
 use std::error::AnyError;
 use std::io::BufRead;
@@ -32,11 +32,22 @@ fn shown(bytes: &[u8], bits: usize) -> &[u8] {
 }
 
 // A writing: height, codes, bytes of T, bytes of L.
-fn written(heap: Global, height: &str, codes: &str, t_bytes: &str, l_bytes: &str) -> Result<String, AnyError> {
+fn written(
+    heap: Global,
+    height: &str,
+    codes: &str,
+    t_bytes: &str,
+    l_bytes: &str,
+) -> Result<String, AnyError> {
     let codes = numbers_of(heap, codes)?;
     let mut t = vec![in heap; 0xa5u8; t_bytes.parse::<usize>()?]?;
     let mut l = vec![in heap; 0xa5u8; l_bytes.parse::<usize>()?]?;
-    match write(codes.as_slice(), height.parse::<u8>()?, t.as_mut_slice(), l.as_mut_slice()) {
+    match write(
+        codes.as_slice(),
+        height.parse::<u8>()?,
+        t.as_mut_slice(),
+        l.as_mut_slice(),
+    ) {
         Ok((t_bits, l_bits)) => {
             let t = hex(heap, shown(t.as_slice(), t_bits))?;
             let l = hex(heap, shown(l.as_slice(), l_bits))?;
@@ -47,12 +58,27 @@ fn written(heap: Global, height: &str, codes: &str, t_bytes: &str, l_bytes: &str
 }
 
 // An opening: height, bits of T, T, bits of L, L, counts.
-fn opened(heap: Global, height: u8, t_bits: usize, t: &str, l_bits: usize, l: &str, counts: &str) -> Result<String, AnyError> {
+fn opened(
+    heap: Global,
+    height: u8,
+    t_bits: usize,
+    t: &str,
+    l_bits: usize,
+    l: &str,
+    counts: &str,
+) -> Result<String, AnyError> {
     let t = bytes_of(heap, t)?;
     let l = bytes_of(heap, l)?;
     let counts = numbers_of(heap, counts)?;
     let mut tree = Tree::empty();
-    match tree.open(height, t.as_slice(), t_bits, l.as_slice(), l_bits, counts.as_slice()) {
+    match tree.open(
+        height,
+        t.as_slice(),
+        t_bits,
+        l.as_slice(),
+        l_bits,
+        counts.as_slice(),
+    ) {
         Ok(()) => {
             let codes = list(heap, cells_of(heap, &tree)?.as_slice())?;
             Ok(format!(heap, "cells {codes}")?)
@@ -65,9 +91,23 @@ fn opened(heap: Global, height: u8, t_bits: usize, t: &str, l_bits: usize, l: &s
 fn answer(heap: Global, line: &str) -> Result<String, AnyError> {
     let fields = line.split('\t').collect::<Vec<&str>>(heap)?;
     match fields.as_slice() {
-        ["write", height, codes, t_bytes, l_bytes] => written(heap, height, codes, t_bytes, l_bytes),
+        ["write", height, codes, t_bytes, l_bytes] => written(
+            heap,
+            height,
+            codes,
+            t_bytes,
+            l_bytes,
+        ),
         ["open", height, t_bits, t, l_bits, l, counts] => {
-            opened(heap, height.parse::<u8>()?, t_bits.parse::<usize>()?, t, l_bits.parse::<usize>()?, l, counts)
+            opened(
+                heap,
+                height.parse::<u8>()?,
+                t_bits.parse::<usize>()?,
+                t,
+                l_bits.parse::<usize>()?,
+                l,
+                counts,
+            )
         }
         _ => Err("a line is neither a writing nor an opening".into()),
     }

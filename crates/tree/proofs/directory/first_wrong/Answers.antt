@@ -9,21 +9,13 @@ use Rattle.tree.specs.Reader.{ones-before}
 use Rattle.tree.proofs.Bytes.{ones-before-le}
 use Rattle.tree.proofs.directory.first_wrong.Needs as need
 
--- the count of one part more
-more : (t : List ℕ) (part total r : ℕ) → total ≡ ones-before t (512 * part) → ones-before t (8 * (64 * part)) + r ≡ ones-before t (8 * (64 * part + 64))
-    → total + r ≡ ones-before t (512 * (part + 1))
-more t part total r e ensured =
-    let a : 8 * (64 * part) ≡ 512 * part = omega arith in
-    let b : 8 * (64 * part + 64) ≡ 512 * (part + 1) = omega arith in
-    ap (λ x. x + r) (e ∙ ap (ones-before t) (sym a)) ∙ ensured ∙ ap (ones-before t) b
-
 pub loop-part-holds : need.loop-part-holds
 loop-part-holds c = (refl, λ j h. let z : j ≡ 0 = omega arith in ap (λ k. getD (c .args .counts .now) k 0) z ∙ c .if-counts-ne0 .left ∙ ap (λ k. ones-before (c .args .t .now) (512 * k)) (sym z))
 
 pub add-total : need.add-total
 add-total c =
     let l = c .loop-part in
-    let e = more (c .args .t .now) (l .part) (l .total) (c .ones-of-bytes-total .result) (l .inv .0) (c .ones-of-bytes-total .ensures) in
+    let e = ap (λ x. x + c .ones-of-step-total .result) (l .inv .0) ∙ c .ones-of-step-total .ensures in
     omega (arith, ones-before-le (c .args .t .now) (512 * (l .part + 1)), c .pre .upper, c .loop-part-test .taken)
 
 pub loop-part-again : need.loop-part-again
@@ -31,7 +23,7 @@ loop-part-again c =
     let l = c .loop-part in
     let t = c .args .t .now in
     let counts = c .args .counts .now in
-    let e = more t (l .part) (l .total) (c .ones-of-bytes-total .result) (l .inv .0) (c .ones-of-bytes-total .ensures) in
+    let e = ap (λ x. x + c .ones-of-step-total .result) (l .inv .0) ∙ c .ones-of-step-total .ensures in
     let go : (j : ℕ) → j ≤ l .part + 1 → (j ≡ l .part + 1) ⊎ (j ≡ l .part + 1 → ⊥) → getD counts j 0 ≡ ones-before t (512 * j) =
     λ j h w. elim w [
       | inl z ↦ ap (λ k. getD counts k 0) z ∙ c .if-counts-part .left ∙ e ∙ ap (λ k. ones-before t (512 * k)) (sym z)
@@ -42,7 +34,7 @@ loop-part-again c =
 pub returns-then-counts-part : need.returns-then-counts-part
 returns-then-counts-part c =
     let l = c .loop-part in
-    let e = more (c .args .t .now) (l .part) (l .total) (c .ones-of-bytes-total .result) (l .inv .0) (c .ones-of-bytes-total .ensures) in
+    let e = ap (λ x. x + c .ones-of-step-total .result) (l .inv .0) ∙ c .ones-of-step-total .ensures in
     (omega (arith, c .loop-part-test .taken), λ q. c .if-counts-part .taken (q ∙ sym e), λ i h. l .inv .1 i (omega arith))
 
 pub returns-then-counts-ne0 : need.returns-then-counts-ne0
