@@ -33,7 +33,7 @@ fn try_height(
 ) -> Result<(), AnyError> {
     try_set(heap, &[], height, totals)?;
     try_set(heap, &[0, random::last_code(height)], height, totals)?;
-    for count in 1..19 {
+    for count in 1..13 {
         let codes = random_codes(heap, random, height, count)?;
         try_set(heap, codes.as_slice(), height, totals)?;
     }
