@@ -19,5 +19,7 @@ mod Hollows
 mod Refusing
 mod Accepting
 mod Listing
+mod Totals
 mod Tallying
 mod Inscribing
+mod Counting

@@ -16,20 +16,8 @@ use Rattle.store.specs.Exact.{occupied, on-board}
 use Rattle.store.specs.ExactFacts.{decides-on-board}
 use Rattle.tree.specs.Bitmaps.{Climbs}
 use Rattle.tree.specs.Tallies.{count-in, tally-of}
+use Rattle.tree.proofs.Totals.{total, total-none, total-more}
 use Rattle.tree.proofs.Walks.{up-one}
-
--- the sum of the first k
-unfoldable pub total : (ℕ → ℕ) → ℕ → ℕ
-total f zero = 0
-total f (suc k) = total f k + f k
-
-pub total-none : (f : ℕ → ℕ) → total f 0 ≡ 0
-unfolding total
-total-none f = refl
-
-pub total-more : (f : ℕ → ℕ) (k : ℕ) → total f (k + 1) ≡ total f k + f k
-unfolding total
-total-more f k = let e : k + 1 ≡ suc k = omega arith in ap (total f) e
 
 total-four : (f : ℕ → ℕ) → total f 4 ≡ f 0 + f 1 + f 2 + f 3
 unfolding total

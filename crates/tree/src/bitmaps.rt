@@ -9,6 +9,9 @@ ghost use Rattle.tree.specs.Reader.{Bitmap, Directory, ones-before, Spared};
 // The most bits that a bitmap may have.
 pub const MOST_BITS: usize = 4_194_304;
 
+// How many bits a block has: one for each quarter of a square.
+pub const BLOCK: usize = 4;
+
 // How many bits of T stand between two counts of the directory.
 pub const SPACING: usize = 512;
 

@@ -14,7 +14,8 @@ ghost use Rattle.tree.specs.Laws.{One-tree};
 ghost use Rattle.store.specs.Exact.{exact, Exactly};
 ghost use Rattle.board.specs.Lists.{Has};
 ghost use Rattle.tree.specs.Openings.{BitsOf, Opens};
-ghost use Rattle.tree.specs.Reader.{Bitmap, Directory, ones-before, Spared};
+ghost use Rattle.tree.specs.Reader.{Bitmap, most-bits};
+use crate::bitmaps::BLOCK;
 use crate::bitmaps::SPACING;
 use crate::bitmaps::is_bitmap;
 use crate::bitmaps::ones_between;
@@ -25,13 +26,10 @@ use crate::fault::TreeFault;
 use crate::reader::Tree;
 use board::square::TOP;
 
-// How many bits a block has.
-const BLOCK: usize = 4;
-
 // Have T and L the bits that their levels demand? Each level is gone over once.
 fn levels_fit(t: &[u8], t_bits: usize, l_bits: usize, height: u8) -> bool
     requires upper { ⌜ Bitmap (now t) «t_bits» ⌝ }
-    requires lower { ⌜ «l_bits» ≤ 4194304 ⌝ }
+    requires lower { ⌜ «l_bits» ≤ most-bits ⌝ }
     requires high { ⌜ 0 < height ⌝ }
     ensures { λ r. ⌜ ((l : List Bool) → length l ≡ «l_bits» → Decides r (Sized height (bits (now (t .entry)) «t_bits») l)) ⌝ }
 {

@@ -1,34 +1,50 @@
 use mathlib.Core.Path.{_≡_, sym, ap, _∙_}
-use Prim.Native.Nat.{_+_, _-_, _*_, _<_, _≤_}
+use Prim.Native.Nat.{ℕ, _+_, _-_, _*_, _^_, _<_, _≤_}
 use native.Mathlib.Omega.{arith}
-use lib.ListN.{length}
+use lib.ListN.{length, getD}
 use Rattle.std.proofs.shelf.Tests.{eqb-true, eqb-false}
-use Rattle.tree.proofs.Whole.{counted-start, counted-more, counted-end, lower-is, none-count-lower, none-count-upper}
+use Rattle.tree.proofs.Rising.{mem-all}
+use Rattle.tree.proofs.Walks.{getD-mem}
+use Rattle.tree.proofs.Whole.{none-count-lower, none-count-upper}
+use Rattle.tree.proofs.Counting.{tallied-start, tallied-apart, tallied-same, tallied-end}
 use Rattle.tree.proofs.writer.count_tree.Needs as need
+use Rattle.tree.proofs.writer.count_tree.Needs.{then-joined-gt1, else-joined-gt1}
 
-pub loop-left-holds : need.loop-left-holds
-loop-left-holds c =
+pub loop-i-holds : need.loop-i-holds
+loop-i-holds c =
     let codes = c .args .codes .now in
     let some : 0 < length codes = omega (arith, eqb-false (length codes) 0 (sym (c .if-is-empty .ensures tt))) in
-    (omega (arith, c .pre .high), counted-start codes (c .args .height) some (c .pre .high .0) (c .pre .listed), omega (arith, c .pre .high))
+    tallied-start codes (c .args .height) some (c .pre .high .0) (c .pre .high .1)
 
-pub loop-left-again : need.loop-left-again
-loop-left-again c =
+pub add-t-blocks : need.add-t-blocks
+add-t-blocks c = omega (arith, c .loop-i .inv .few, c .loop-i-test .taken, c .pre .short, c .joined-at-joined .ensures .high, c .pre .high)
+
+pub add-l-blocks : need.add-l-blocks
+add-l-blocks c = omega (arith, c .loop-i .inv .few', c .loop-i-test .taken, c .pre .short)
+
+pub loop-i-again : need.loop-i-again
+loop-i-again c =
     let codes = c .args .codes .now in
-    let some : 0 < length codes = omega (arith, eqb-false (length codes) 0 (sym (c .if-is-empty .ensures tt))) in (
-      omega (arith, c .loop-left .inv .0),
-      counted-more codes (c .args .height) (c .loop-left .left) (c .loop-left .blocks) (c .count-level-blocks .result) (c .pre .listed .0) some (c .loop-left-test .taken) (c .loop-left .inv .1) (c .count-level-blocks .ensures .size),
-      omega (arith, c .loop-left .inv .2, c .count-level-blocks .ensures .few, c .pre .short),
-    )
+    let small : (k : ℕ) → k < length codes → getD codes k 0 < 4 ^ c .args .height = λ k h. mem-all (λ x. x < 4 ^ c .args .height) codes (getD codes k 0) (c .pre .listed .1) (getD-mem codes k h) in
+    elim (c .if-joined-gt1 .came) [
+      | then-joined-gt1 w ↦
+          rw (w .t-blocks-is, w .l-blocks-is)
+          (tallied-apart codes (c .args .height) (c .loop-i .i) (c .loop-i .t-blocks) (c .loop-i .l-blocks) (c .joined-at-joined .result) (c .loop-i .inv) (c .pre .high .1) (c .loop-i .kept .i) (c .loop-i-test .taken) (c .joined-at-joined .ensures) small (w .if-joined-gt1 .taken))
+      | else-joined-gt1 w ↦
+          rw (w .t-blocks-is, w .l-blocks-is)
+          (tallied-same codes (c .args .height) (c .loop-i .i) (c .loop-i .t-blocks) (c .loop-i .l-blocks) (c .joined-at-joined .result) (c .loop-i .inv) (c .pre .high .1) (c .loop-i .kept .i) (c .loop-i-test .taken) (c .joined-at-joined .ensures) small (w .if-joined-gt1 .left))
+    ]
 
 pub returns : need.returns
 returns c =
     let codes = c .args .codes .now in
     let some : 0 < length codes = omega (arith, eqb-false (length codes) 0 (sym (c .if-is-empty .ensures tt))) in
+    let w = c .loop-i .inv in
+    let r = tallied-end codes (c .args .height) (c .loop-i .i) (c .loop-i .t-blocks) (c .loop-i .l-blocks) some (c .pre .high .0) (c .pre .listed) w (c .loop-i-test .left) in
     record {
-      upper = counted-end codes (c .args .height) (c .loop-left .left) (c .loop-left .blocks) (omega (arith, c .loop-left-test .left)) (c .loop-left .inv .1);
-      lower = c .count-level .ensures .size ∙ ap length (lower-is codes (c .args .height) some (c .pre .high .0) (c .pre .listed));
-      few = (omega (arith, c .loop-left .inv .2), omega (arith, c .count-level .ensures .few, c .pre .short));
+      upper = r .0;
+      lower = r .1;
+      few = (omega (arith, w .few, c .loop-i .kept .i-end, c .pre .short), omega (arith, w .few', c .loop-i .kept .i-end, c .pre .short));
     }
 
 pub returns-then-height-eq1 : need.returns-then-height-eq1
