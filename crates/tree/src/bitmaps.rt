@@ -7,23 +7,23 @@ ghost use Rattle.tree.specs.Bitmaps.{bit};
 ghost use Rattle.tree.specs.Reader.{Bitmap, Directory, ones-before, Spared};
 
 // The most bits that a bitmap may have.
-pub const MOST_BITS: usize = 4_194_304;
+pub(crate) const MOST_BITS: usize = 4_194_304;
 
 // How many bits a block has: one for each quarter of a square.
-pub const BLOCK: usize = 4;
+pub(crate) const BLOCK: usize = 4;
 
 // How many bits of T stand between two counts of the directory.
-pub const SPACING: usize = 512;
+pub(crate) const SPACING: usize = 512;
 
 // Is this a bitmap of so many bits: not too many, in as many bytes as they need?
-pub fn is_bitmap(bytes: &[u8], bits: usize) -> bool
+pub(crate) fn is_bitmap(bytes: &[u8], bits: usize) -> bool
     ensures { λ r. ⌜ Decides r (Bitmap (now (bytes .entry)) bits) ⌝ }
 {
     bits <= MOST_BITS && bytes.len() == (bits + 7) / 8
 }
 
 // Is the bit at this place 1?
-pub fn bit_at(bytes: &[u8], place: usize) -> bool
+pub(crate) fn bit_at(bytes: &[u8], place: usize) -> bool
     requires { ⌜ place < 8 * length (now bytes) ⌝ }
     ensures { λ r. ⌜ r ≡ bit (now (bytes .entry)) place ⌝ }
 {
@@ -31,7 +31,7 @@ pub fn bit_at(bytes: &[u8], place: usize) -> bool
 }
 
 // Are all bits behind the first n 0?
-pub fn spares_clear(bytes: &[u8], bits: usize) -> bool
+pub(crate) fn spares_clear(bytes: &[u8], bits: usize) -> bool
     requires { ⌜ Bitmap (now bytes) bits ⌝ }
     ensures { λ r. ⌜ Decides r (Spared (now (bytes .entry)) bits) ⌝ }
 {
@@ -39,7 +39,7 @@ pub fn spares_clear(bytes: &[u8], bits: usize) -> bool
 }
 
 // How many bits of the bytes from one to another are 1.
-pub fn ones_of_bytes(bytes: &[u8], from: usize, to: usize) -> usize
+pub(crate) fn ones_of_bytes(bytes: &[u8], from: usize, to: usize) -> usize
     requires { ⌜ from ≤ to ⌝ ∗ ⌜ to ≤ length (now bytes) ⌝ ∗ ⌜ length (now bytes) ≤ 2 ^ 20 ⌝ }
     ensures { λ r. ⌜ ones-before (now (bytes .entry)) (8 * from) + r ≡ ones-before (now (bytes .entry)) (8 * to) ⌝ }
 {
@@ -63,7 +63,7 @@ fn ones_of_part(bytes: &[u8], n: usize) -> usize
 }
 
 // How many bits are 1, from one place up to another.
-pub fn ones_between(bytes: &[u8], from: usize, to: usize) -> usize
+pub(crate) fn ones_between(bytes: &[u8], from: usize, to: usize) -> usize
     requires { ⌜ from ≤ to ⌝ ∗ ⌜ to ≤ 8 * length (now bytes) ⌝ ∗ ⌜ length (now bytes) ≤ 2 ^ 20 ⌝ }
     ensures { λ r. ⌜ ones-before (now (bytes .entry)) from + r ≡ ones-before (now (bytes .entry)) to ⌝ }
 {
@@ -71,7 +71,7 @@ pub fn ones_between(bytes: &[u8], from: usize, to: usize) -> usize
 }
 
 // How many of the first n bits are 1: the count of the whole parts of 512 bits, then what is left.
-pub fn rank(bytes: &[u8], counts: &[u32], bits: usize, n: usize) -> usize
+pub(crate) fn rank(bytes: &[u8], counts: &[u32], bits: usize, n: usize) -> usize
     requires inside { ⌜ n ≤ bits ⌝ ∗ ⌜ bits ≤ 8 * length (now bytes) ⌝ ∗ ⌜ length (now bytes) ≤ 2 ^ 20 ⌝ }
     requires directory { ⌜ Directory (now bytes) bits (now counts) ⌝ }
     ensures { λ r. ⌜ r ≡ ones-before (now (bytes .entry)) n ⌝ }

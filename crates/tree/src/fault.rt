@@ -19,7 +19,7 @@ pub enum TreeFault {
     Height,
     // a bitmap has too many bits, or not the bytes that they need
     Size,
-    // T or L has not the bits that the levels demand
+    // T or L is shorter or longer than its levels ask for
     Levels,
     // a block below the first level has no 1; its first bit in T followed by L
     EmptyBlock(usize),

@@ -13,16 +13,16 @@ use tree::writer::write;
 
 // How many sets were tried, and what came of them.
 #[derive(Clone, Copy)]
-pub struct Totals {
-    pub sets: u32,
-    pub read_back: u32,
-    pub flips: u32,
-    pub refused: u32,
-    pub others: u32,
+pub(crate) struct Totals {
+    pub(crate) sets: u32,
+    pub(crate) read_back: u32,
+    pub(crate) flips: u32,
+    pub(crate) refused: u32,
+    pub(crate) others: u32,
 }
 
 impl Totals {
-    pub fn new() -> Totals {
+    pub(crate) fn new() -> Totals {
         Totals {
             sets: 0,
             read_back: 0,
@@ -150,7 +150,7 @@ fn write_down<'a>(heap: Global, codes: &'a [u32], height: u8) -> Result<Written<
 }
 
 // Writes a set, reads it back, and flips each bit of its bytes in turn.
-pub fn try_set(
+pub(crate) fn try_set(
     heap: Global,
     codes: &[u32],
     height: u8,

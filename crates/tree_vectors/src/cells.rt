@@ -26,7 +26,7 @@ fn add_cells(tree: &Tree, square: Square, cells: &mut Vec<u32>) -> Result<(), Al
     Ok(())
 }
 
-pub fn cells_of(heap: Global, tree: &Tree) -> Result<Vec<u32>, AllocError> {
+pub(crate) fn cells_of(heap: Global, tree: &Tree) -> Result<Vec<u32>, AllocError> {
     let mut cells = Vec::new(heap);
     let board = Square {
         level: TOP,

@@ -16,7 +16,7 @@ fn digit(c: u8) -> Option<u8>
 }
 
 // The bytes that pairs of digits stand for; - stands for none.
-pub fn bytes_of(heap: Global, text: &str) -> Result<Vec<u8>, AnyError> {
+pub(crate) fn bytes_of(heap: Global, text: &str) -> Result<Vec<u8>, AnyError> {
     let mut bytes = Vec::new(heap);
     let mut left = text.as_bytes();
     while let [high, low, rest @ ..] = left {
@@ -30,7 +30,7 @@ pub fn bytes_of(heap: Global, text: &str) -> Result<Vec<u8>, AnyError> {
 }
 
 // The bytes in hexadecimal, or - where there is none.
-pub fn hex(heap: Global, bytes: &[u8]) -> Result<String, AnyError> {
+pub(crate) fn hex(heap: Global, bytes: &[u8]) -> Result<String, AnyError> {
     let mut out = String::new(heap);
     for b in bytes {
         out.push_str(format!(heap, "{b:02x}")?.as_str())?;
@@ -42,7 +42,7 @@ pub fn hex(heap: Global, bytes: &[u8]) -> Result<String, AnyError> {
 }
 
 // Numbers parted by commas; - stands for none.
-pub fn numbers_of(heap: Global, text: &str) -> Result<Vec<u32>, AnyError> {
+pub(crate) fn numbers_of(heap: Global, text: &str) -> Result<Vec<u32>, AnyError> {
     let mut numbers = Vec::new(heap);
     if text != "-" {
         for word in text.split(',') {
@@ -53,7 +53,7 @@ pub fn numbers_of(heap: Global, text: &str) -> Result<Vec<u32>, AnyError> {
 }
 
 // The numbers parted by commas, or - where there is none.
-pub fn list(heap: Global, numbers: &[u32]) -> Result<String, AnyError> {
+pub(crate) fn list(heap: Global, numbers: &[u32]) -> Result<String, AnyError> {
     let mut out = String::new(heap);
     for n in numbers {
         if !out.is_empty() {
