@@ -12,7 +12,7 @@ use Rattle.std.specs.shelf.Lists.{All}
 use Rattle.std.proofs.shelf.Tests.{cases-lt, lt-ltb, le-ltb}
 use Rattle.tree.specs.Bitmaps.{Climbs, squares, upper, encode-T, encode-L}
 use Rattle.tree.specs.Laws.{Listed}
-use Rattle.tree.specs.Writing.{emit, Joins}
+use Rattle.tree.specs.Passes.{emit, Joins}
 use Rattle.tree.proofs.Standing.{two-four}
 use Rattle.tree.proofs.Walks.{up-one}
 use Rattle.tree.proofs.Totals.{total, total-none, total-more}

@@ -13,7 +13,8 @@ use Rattle.tree.specs.Faults.{High}
 use Rattle.tree.specs.Laws.{Listed}
 use Rattle.tree.specs.Openings.{BitsOf}
 use Rattle.tree.specs.Reader.{Bitmap, Directory, most-bits, Spared}
-use Rattle.tree.specs.Writing.{Inscribed, Put}
+use Rattle.tree.specs.Passes.{Put}
+use Rattle.tree.specs.Writing.{Inscribed}
 use Rattle.tree.proofs.Bytes.{none-behind}
 use Rattle.tree.proofs.Putting.{put-length, bits-same}
 use Rattle.tree.proofs.Written.{written-reads-back}

@@ -6,4 +6,5 @@ pub mod Openings
 pub mod Held
 pub mod Tallies
 pub mod Writing
+pub mod Passes
 pub mod Worked
