@@ -3,7 +3,7 @@ use mathlib.Core.Bool.{Bool, true, false, _&&_, cond}
 use mathlib.Core.List.{List, [], _∷_}
 use mathlib.Core.Logic.{_⊎_, inl, inr, ⊎-elim}
 use mathlib.Core.Path.{_≡_, refl, sym, ap, subst, _∙_}
-use Prim.Native.Nat.{ℕ, zero, suc, _+_, _-_, _*_, _/_, _%_, _^_, _<_, _≤_}
+use Prim.Native.Nat.{ℕ, zero, suc, _+_, _-_, _*_, _/_, _%_, _^_, _<_}
 use native.Mathlib.Nat.{div-div-eq-div-mul, div-one, pow-suc}
 use native.Mathlib.Numerals.{add-one}
 use native.Mathlib.Omega.{arith}
@@ -12,13 +12,13 @@ use lib.ListN.{length, getD}
 use Rattle.std.specs.Orderings.{Decides}
 use Rattle.std.proofs.shelf.Tests.{true≢false, leb-true, le-leb, eqb-true, eq-eqb, or-cases, or-left, or-right, and-parts, and-from, and-left, cases-bool, cond-true, cond-false}
 use Rattle.std.proofs.shelf.Ways.{decides-and, decides-ltb}
-use Rattle.board.specs.Limits.{top, parts, codes}
+use Rattle.board.specs.Limits.{top, parts}
 use Rattle.board.specs.Lists.{Has}
 use Rattle.board.specs.Squares.{OnBoard, Inside}
 use Rattle.board.proofs.Boards.{quarter-on-board}
 use Rattle.store.specs.declared.store.Answer.{Answer}
 use Rattle.store.specs.declared.store.Answer.the-variants.{Empty, Occupied, Unknown}
-use Rattle.store.specs.Stores.{counts, Counts, Holds, StoreFacts}
+use Rattle.store.specs.Stores.{counts, Counts, StoreFacts}
 use Rattle.store.specs.Exact.{Shares, HoldsSet, Exactly, on-board, tested, occupied, exact}
 
 -- ---- answers
@@ -60,6 +60,12 @@ square-on-board l n k h j b =
     let f : parts ^ (top - l) ≡ parts ^ (top - (l + 1)) * parts = ap (λ x. parts ^ x) e ∙ pow-suc parts (top - (l + 1)) in
     (omega arith, omega arith)
 
+-- and a quarter is on the board where the square is
+pub quarter-on : (l n k : ℕ) → OnBoard (l + 1) n → k < parts → OnBoard l (parts * n + k)
+quarter-on l n k b j =
+    let i : l + 1 - 1 ≡ l = omega arith in
+    subst (λ x. OnBoard x (parts * n + k)) i (quarter-on-board (l + 1) n k b (omega arith) j)
+
 -- ---- the facts
 
 module _ (P : ℕ → Type 0) (t : ℕ → ℕ → Answer) (e : Exactly P t) where
@@ -81,8 +87,7 @@ module _ (P : ℕ → Type 0) (t : ℕ → ℕ → Answer) (e : Exactly P t) whe
         let c = s .1 .0 in
         let k = c / parts ^ l % parts in
         let j : k < parts = omega arith in
-        let i : l + 1 - 1 ≡ l = omega arith in
-        (k, j, e .shared l (parts * n + k) (subst (λ x. OnBoard x (parts * n + k)) i (quarter-on-board (l + 1) n k (s .0) (omega arith) j)) (c, s .1 .1, inward l n c (s .1 .2)));
+        (k, j, e .shared l (parts * n + k) (quarter-on l n k (s .0) j) (c, s .1 .1, inward l n c (s .1 .2)));
     off-board = λ l n f. else-empty l n (λ y. f (e .shown l n y .0));
   }
 

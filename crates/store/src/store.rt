@@ -3,7 +3,7 @@ ghost use denote.Ref.{now};
 ghost use mathlib.Core.Path.{_≡_};
 ghost use Prim.Native.Nat.{ℕ};
 ghost use Rattle.store.specs.declared.store.Answer.{Answer};
-ghost use Rattle.store.specs.Stores.{StoreFacts};
+ghost use Rattle.store.specs.Stores.{StoreFacts, counts};
 use board::square::Square;
 
 // What a store says of a square.
@@ -17,10 +17,24 @@ pub enum Answer {
     Unknown,
 }
 
+impl Answer {
+    // Whether the answer says that the square holds a cell.
+    pub fn counts(self) -> bool
+        ensures value { λ r. ⌜ r ≡ counts self ⌝ }
+    {
+        match self {
+            Answer::Occupied => true,
+            Answer::Empty | Answer::Unknown => false,
+        }
+    }
+}
+
+// What is known of a set of cells, square by square.
 pub trait Store {
     // the table of answers: by level and number
     ghost answers: { Self → ℕ → ℕ → Answer };
 
+    // the proof that the table keeps to what every store owes
     ghost facts: { (s : Self) → StoreFacts (answers s) };
 
     // Reads the table; it is never refused, and changes nothing.
