@@ -1,0 +1,10 @@
+use mathlib.Core.Path.{_≡_}
+use Prim.Native.Nat.{ℕ, _*_, _≤_}
+use lib.ListN.{getD}
+use Rattle.tree.specs.Reader.{ones-before, spacing}
+use Rattle.tree.proofs.directory.first_wrong.Given as given
+
+abbrev pub Inv-loop-part : given.InvT-loop-part
+Inv-loop-part l =
+    (l .total ≡ ones-before (l .t) (spacing * l .part))
+    × ((j : ℕ) → j ≤ l .part → getD (l .counts) j 0 ≡ ones-before (l .t) (spacing * j))
