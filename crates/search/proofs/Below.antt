@@ -10,10 +10,6 @@ use Rattle.board.specs.declared.square.Square.{Square}
 use Rattle.board.proofs.Boards.{four-positive, code-fits}
 use Rattle.search.specs.Descents.{Under, Before, starts, ends, quarter}
 
--- falls with every square that is taken, also where its quarters come in its place
-abbrev pub weight : Square → ℕ
-weight s = 5 ^ s .level
-
 pub square-is : (q s : Square) (k : ℕ) → q .level + 1 ≡ s .level → q .number ≡ 4 * s .number + k → q ≡ quarter s k
 square-is q s k e n =
     let l : q .level ≡ s .level - 1 = omega arith in

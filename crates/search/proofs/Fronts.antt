@@ -14,10 +14,11 @@ use Rattle.board.specs.Squares.{OnBoard}
 use Rattle.board.specs.declared.square.Square.{Square}
 use Rattle.board.proofs.Boards.{quarter-on-board}
 use Rattle.search.specs.Descents.{Under, Outside, Before, starts, ends, quarter}
+use Rattle.search.specs.Offers.{weight}
 use Rattle.search.specs.Piles.{piled}
 use Rattle.search.specs.Stacks.{from-last}
 use Rattle.search.proofs.Piled.{piled-length, piled-all, piled-rest, piled-each, piled-sum}
-use Rattle.search.proofs.Below.{weight, under-quarter, under-starts, between-under, quarter-ends, quarters-follow, starts-before-ends}
+use Rattle.search.proofs.Below.{under-quarter, under-starts, between-under, quarter-ends, quarters-follow, starts-before-ends}
 
 -- a square on the stack, with h others below it, in a walk down to the level e that ends before the code `last`
 pub record Slot (e last h : ℕ) (s : Square) : Type 0 where

@@ -6,3 +6,9 @@ pub mod Below
 pub mod Fronts
 pub mod Laters
 pub mod Walks
+pub mod Counting
+pub mod Scouting
+pub mod Hunting
+pub mod Offering
+pub mod Searching
+pub mod Keying

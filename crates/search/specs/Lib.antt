@@ -5,3 +5,7 @@ pub mod Descents
 pub mod Piles
 pub mod Stacks
 pub mod Visits
+pub mod Firsts
+pub mod Keys
+pub mod Hunts
+pub mod Offers

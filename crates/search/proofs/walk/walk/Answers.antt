@@ -8,7 +8,7 @@ use Rattle.std.specs.shelf.Lists.{sumBy}
 use Rattle.board.specs.declared.square.Square.{Square}
 use Rattle.search.specs.Stacks.{held}
 use Rattle.search.specs.Visits.{Met}
-use Rattle.search.proofs.Below.{weight}
+use Rattle.search.specs.Offers.{weight}
 use Rattle.search.proofs.Fronts.{quarters, lighter-taken, lighter-open}
 use Rattle.search.proofs.Walks.{Walking, walking-begins, walking-opens, walking-closes, walking-ends}
 use Rattle.search.proofs.walk.walk.Needs as need

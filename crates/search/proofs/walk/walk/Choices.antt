@@ -3,7 +3,7 @@ use mathlib.Core.List.{[], _∷_}
 use Rattle.std.specs.shelf.Lists.{sumBy}
 use Rattle.board.specs.declared.square.Square.{Square}
 use Rattle.search.specs.Stacks.{held}
-use Rattle.search.proofs.Below.{weight}
+use Rattle.search.specs.Offers.{weight}
 use Rattle.search.proofs.Walks.{Walking}
 use Rattle.search.proofs.walk.walk.Given as given
 
