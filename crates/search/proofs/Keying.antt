@@ -13,23 +13,11 @@ use Rattle.board.specs.Strays.{Within, Nearest}
 use Rattle.board.proofs.Bounded.{bounds}
 use Rattle.store.specs.declared.store.Answer.{Answer}
 use Rattle.store.specs.Stores.{Counts, Holds, StoreFacts}
+use Rattle.store.proofs.Sounds.{counted-holds-a-cell, held-on-board}
 use Rattle.search.specs.Keys.{Partnered, Unpartnered, Keyed, KeyBounds, KeyFalls, KeyOfCell, KeyLaws}
 use Rattle.search.proofs.Counting.{counted-on-board}
 
 module _ (t : ℕ → ℕ → Answer) (facts : StoreFacts t) where
-  -- a square that counts has a cell that is held
-  held-below : (l p : ℕ) → l ≤ 16 → Counts (t l p) → (e : ℕ) × Holds t e × Inside l p e
-  held-below zero p h o = (p, o, div-one p)
-  held-below (suc l) p h o =
-      let z : Counts (t (l + 1) p) = subst (λ m. Counts (t m p)) (sym (add-one l)) o in
-      let q = facts .counted-quarter l p (omega arith) z in
-      let r = held-below l (4 * p + q .0) (omega arith) (q .2) in
-      let i : r .0 / 4 ^ l / 4 ≡ p = let j = r .2 in let k = q .1 in omega arith in
-      (r .0, r .1, ap (λ x. r .0 / x) (pow-suc 4 l) ∙ sym (div-div-eq-div-mul (r .0) (4 ^ l) 4) ∙ i)
-
-  held-code : (e : ℕ) → Holds t e → e < 2 ^ 32
-  held-code e h = counted-on-board t facts 0 e h .1
-
   module _ (f : ℕ → ℕ → ℕ) (laws : MeasureLaws f) where
     b : Bounds f
     b = bounds f laws
@@ -43,12 +31,12 @@ module _ (t : ℕ → ℕ → Answer) (facts : StoreFacts t) where
 
     key-bounds : (l n k p : ℕ) → Keyed f t l n k p → KeyBounds f t l n k
     key-bounds l n k p (inl h) a e lt i held =
-        let c = held-below l p (counted-on-board t facts l p (h .counted) .0) (h .counted) in
-        let d : distance f a (c .0) ≤ far f l (a / 4 ^ l) l (c .0 / 4 ^ l) = b .far-cells l l a (c .0) lt (held-code (c .0) (c .1)) in
-        let x : distance f a (c .0) ≤ far f l n l p = subst (λ y. distance f a (c .0) ≤ far f l n l y) (c .2) (subst (λ y. distance f a (c .0) ≤ far f l y l (c .0 / 4 ^ l)) i d) in
-        (c .0, c .1, subst (λ y. distance f a (c .0) ≤ y) (sym (h .amount)) x)
+        let c = counted-holds-a-cell t facts l p (h .counted) in
+        let d : distance f a (c .0) ≤ far f l (a / 4 ^ l) l (c .0 / 4 ^ l) = b .far-cells l l a (c .0) lt (held-on-board t facts (c .0) (c .2)) in
+        let x : distance f a (c .0) ≤ far f l n l p = subst (λ y. distance f a (c .0) ≤ far f l n l y) (c .1) (subst (λ y. distance f a (c .0) ≤ far f l y l (c .0 / 4 ^ l)) i d) in
+        (c .0, c .2, subst (λ y. distance f a (c .0) ≤ y) (sym (h .amount)) x)
     key-bounds l n k p (inr h) a e lt i held =
-        let d = b .cell-far a e lt (held-code e held) in
+        let d = b .cell-far a e lt (held-on-board t facts e held) in
         let k≡ = h .amount in
         (e, held, omega (arith, b .topped 0 a 0 e))
 
@@ -69,7 +57,7 @@ module _ (t : ℕ → ℕ → Answer) (facts : StoreFacts t) where
     cell-key : (n k p e : ℕ) → n < codes → Holds t e → Keyed f t 0 n k p → Nearest (distance f) (Holds t) n p × (k ≡ distance f n p)
     cell-key n k p e lt held (inr h) = absurd (h .none e held)
     cell-key n k p e lt held (inl h) =
-        let to : (c : ℕ) → Holds t c → far f 0 n 0 c ≡ distance f n c = λ c o. b .cell-far n c lt (held-code c o) in
+        let to : (c : ℕ) → Holds t c → far f 0 n 0 c ≡ distance f n c = λ c o. b .cell-far n c lt (held-on-board t facts c o) in
         let is : k ≡ distance f n p = h .amount ∙ to p (h .counted) in (
           record {
             held = h .counted;

@@ -3,13 +3,13 @@ ghost use mathlib.Core.Path.{_≡_};
 ghost use Rattle.board.specs.Findings.{code-of};
 ghost use Rattle.std.specs.Options.{Cases as BySome};
 ghost use Rattle.search.specs.Firsts.{NoneHeld, FirstHeld, FoundFirst, Searched};
-use crate::answers::counts;
-use crate::answers::is_empty;
 use crate::walk::Visitor;
 use crate::walk::walk;
 use board::cell::Cell;
 use board::square::Square;
 use board::square::TOP;
+use store::store::Answer;
+use store::store::AnswerPartialEq as _;
 use store::store::Store;
 
 // Looks for the first cell: the code that was found so far.
@@ -37,13 +37,13 @@ impl<'a, A: Store> Visitor for Scout<'a, A> as ScoutVisitor {
             return false;
         }
         let answer = self.store.query(s);
-        if is_empty(answer) {
+        if answer == Answer::Empty {
             return false;
         }
         if s.level > 0 {
             return true;
         }
-        if counts(answer) {
+        if answer.counts() {
             self.first = Some(s.number);
         }
         false

@@ -7,14 +7,14 @@ ghost use Rattle.std.specs.declared.option.Option.the-variants.{Some};
 ghost use Rattle.std.specs.Orderings.{When, Decides};
 ghost use Rattle.search.specs.Hunts.{Settled, Beyond, floor, since, done, comes};
 ghost use Rattle.search.specs.Visits.{Met};
-use crate::answers::counts;
-use crate::answers::is_empty;
 use crate::walk::Visitor;
 use board::amounts::far;
 use board::amounts::near;
 use board::measure::Amount;
 use board::measure::Measure;
 use board::square::Square;
+use store::store::Answer;
+use store::store::AnswerPartialEq as _;
 use store::store::Store;
 
 // A square of B that counts, and its far amount.
@@ -66,13 +66,13 @@ impl<'a, B: Store, M: Measure> Hunt<'a, B, M> {
         ensures looked { λ r. ⌜ (OnBoard (s .level) (s .number) → now (self .entry) .aim .of .level ≤ s .level → Met (floor (B·Store .answers) (M·Measure .amount)) (since (B·Store .answers) (M·Measure .amount)) (done (B·Store .answers) (M·Measure .amount)) (comes (B·Store .answers) (M·Measure .amount)) (now (self .entry)) s r (now (self .exit))) ⌝ }
     {
         let answer = self.aim.store.query(s);
-        if is_empty(answer) {
+        if answer == Answer::Empty {
             return false;
         }
         if s.level > self.aim.of.level {
             return true;
         }
-        if counts(answer) {
+        if answer.counts() {
             let key = far(self.aim.measure, self.aim.of, s);
             if improves(self.best, key, s.number) {
                 let number = s.number;

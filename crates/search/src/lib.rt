@@ -1,5 +1,4 @@
 // The search for the nearest square of a store: waiting lists, the walk in depth, and keys with their partners.
-mod answers;
 pub mod first;
 mod hunt;
 pub mod nearest;

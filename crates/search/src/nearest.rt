@@ -2,7 +2,7 @@
 ghost use mathlib.Core.List.{[], _∷_};
 ghost use mathlib.Core.Path.{_≡_};
 ghost use Prim.Native.Nat.{ℕ, _<_, _≤_};
-ghost use Rattle.board.specs.Limits.{parts, most};
+ghost use Rattle.board.specs.Limits.{parts, edge, most};
 ghost use Rattle.board.specs.Squares.{OnBoard};
 ghost use Rattle.search.specs.Descents.{quarter};
 ghost use Rattle.search.specs.Hunts.{Hunted, near-to, done};
@@ -62,7 +62,7 @@ fn spread<B: Store, M: Measure>(hunt: &mut Hunt<B, M>, list: &mut WaitingList<Ne
 
 // The amount of the greatest offset.
 fn greatest<M: Measure>(m: &M) -> Amount
-    ensures { λ r. ⌜ r ≡ M·Measure .amount (now (m .entry)) 65535 65535 ⌝ }
+    ensures { λ r. ⌜ r ≡ M·Measure .amount (now (m .entry)) edge edge ⌝ }
 {
     m.amount(EDGE as u16, EDGE as u16)
 }

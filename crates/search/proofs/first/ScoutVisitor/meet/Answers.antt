@@ -10,12 +10,12 @@ use Rattle.search.proofs.Laters.{later-same}
 use Rattle.search.proofs.Scouting.{unset, searched-empty, first-found}
 use Rattle.search.proofs.first.ScoutVisitor.meet.Needs as need
 
-pub returns-then-is-empty : need.returns-then-is-empty
-returns-then-is-empty g c =
+pub returns-then-eq : need.returns-then-eq
+returns-then-eq g c =
     let v = c .args .self .now in
     let s = c .args .s in
     let t = g .A·Store .answers (v .store .now) in
-    let e : t (s .level) (s .number) ≡ Empty = sym (c .query-answer .ensures .answer) ∙ c .if-is-empty .ensures tt .0 refl in
+    let e : t (s .level) (s .number) ≡ Empty = sym (c .query-answer .ensures .answer) ∙ c .if-eq .ensures tt in
     record {
       same-floor = refl;
       stops-at-floor = λ e. absurd (false≢true e);
@@ -32,7 +32,7 @@ returns-then-counts g c =
     let A = g .A·Store .answers in
     let t = A (v .store .now) in
     let e : s .level ≡ 0 = omega arith in
-    let held : Holds t (s .number) = subst (λ l. Counts (t l (s .number))) e (ap counts (sym (c .query-answer .ensures .answer)) ∙ sym (c .if-counts .ensures tt)) in
+    let held : Holds t (s .number) = subst (λ l. Counts (t l (s .number))) e (ap counts (sym (c .query-answer .ensures .answer)) ∙ sym (c .if-counts .ensures tt .value)) in
     record {
       same-floor = refl;
       stops-at-floor = λ e. absurd (false≢true e);

@@ -5,13 +5,13 @@ use Rattle.search.proofs.Counting.{not-both, empty-under}
 use Rattle.search.proofs.Laters.{later-same}
 use Rattle.search.proofs.hunt.Hunt.look.Needs as need
 
-pub returns-then-is-empty : need.returns-then-is-empty
-returns-then-is-empty g c =
+pub returns-then-eq : need.returns-then-eq
+returns-then-eq g c =
     let v = c .args .self .now in
     let s = c .args .s in
     let t = g .B·Store .answers (v .aim .store .now) in
     let l = v .aim .of .level in
-    let e : t (s .level) (s .number) ≡ Empty = sym (c .query-answer .ensures .answer) ∙ c .if-is-empty .ensures tt .0 refl in
+    let e : t (s .level) (s .number) ≡ Empty = sym (c .query-answer .ensures .answer) ∙ c .if-eq .ensures tt in
     record {
       same-aim = refl;
       stops-at-level = λ e. absurd (false≢true e);
