@@ -37,7 +37,8 @@ impl<'a, T> WaitingList<'a, T> {
     pub fn capacity(&self) -> usize
         ensures all_places { λ r. ⌜ r ≡ room (now (self .entry)) ⌝ }
     {
-        self.places.len()
+        let all = &*self.places;
+        all.len()
     }
 }
 
@@ -157,8 +158,8 @@ impl<'a, T: Ord + Copy> WaitingList<'a, T> {
         if self.len() == 0 {
             return None;
         }
-        let x = self.places[0];
-        Some(x)
+        let shown = self.places[0];
+        Some(shown)
     }
 
     // Takes the first in order, and frees its place; none where nothing waits.
