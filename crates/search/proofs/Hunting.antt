@@ -6,6 +6,7 @@ use native.Mathlib.Omega.{arith}
 use Rattle.std.specs.declared.option.Option.{Option}
 use Rattle.std.specs.declared.option.Option.the-variants.{None, Some}
 use Rattle.board.specs.Distances.{near, far, Bounds}
+use Rattle.board.specs.Limits.{parts}
 use Rattle.search.specs.declared.hunt.Partner.{Partner}
 use Rattle.search.specs.Descents.{Under}
 use Rattle.search.specs.Hunts.{Settled, Beyond}
@@ -15,7 +16,7 @@ module _ (f : ℕ → ℕ → ℕ) (bounds : Bounds f) (l r : ℕ) where
   pub near-under : (m n q : ℕ) → l ≤ m → Under l m n q → near f l r m n ≤ far f l r l q
   near-under m n q h u =
       let e : l + (m - l) ≡ m = omega arith in
-      let i : q / 4 ^ (m - l) ≡ n = u in
+      let i : q / parts ^ (m - l) ≡ n = u in
       le-trans (rw (add-zero l, div-one r, e, i) at (bounds .outer-near l r l q 0 (m - l))) (bounds .ordered l r l q)
 
   -- where a square is beyond what was found, so is what lies in it

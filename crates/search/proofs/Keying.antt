@@ -5,7 +5,7 @@ use Prim.Native.Nat.{ℕ, zero, suc, _+_, _*_, _/_, _^_, _<_, _≤_}
 use native.Mathlib.Nat.{le-trans, div-one, pow-suc, div-div-eq-div-mul}
 use native.Mathlib.Numerals.{add-one}
 use native.Mathlib.Omega.{arith}
-use Rattle.board.specs.Limits.{edge, codes, most}
+use Rattle.board.specs.Limits.{edge, codes, most, parts}
 use Rattle.board.specs.Measures.{MeasureLaws}
 use Rattle.board.specs.Squares.{Inside}
 use Rattle.board.specs.Distances.{distance, far, Bounds}
@@ -32,8 +32,8 @@ module _ (t : ℕ → ℕ → Answer) (facts : StoreFacts t) where
     key-bounds : (l n k p : ℕ) → Keyed f t l n k p → KeyBounds f t l n k
     key-bounds l n k p (inl h) a e lt i held =
         let c = counted-holds-a-cell t facts l p (h .counted) in
-        let d : distance f a (c .0) ≤ far f l (a / 4 ^ l) l (c .0 / 4 ^ l) = b .far-cells l l a (c .0) lt (held-on-board t facts (c .0) (c .2)) in
-        let x : distance f a (c .0) ≤ far f l n l p = subst (λ y. distance f a (c .0) ≤ far f l n l y) (c .1) (subst (λ y. distance f a (c .0) ≤ far f l y l (c .0 / 4 ^ l)) i d) in
+        let d : distance f a (c .0) ≤ far f l (a / parts ^ l) l (c .0 / parts ^ l) = b .far-cells l l a (c .0) lt (held-on-board t facts (c .0) (c .2)) in
+        let x : distance f a (c .0) ≤ far f l n l p = subst (λ y. distance f a (c .0) ≤ far f l n l y) (c .1) (subst (λ y. distance f a (c .0) ≤ far f l y l (c .0 / parts ^ l)) i d) in
         (c .0, c .2, subst (λ y. distance f a (c .0) ≤ y) (sym (h .amount)) x)
     key-bounds l n k p (inr h) a e lt i held =
         let d = b .cell-far a e lt (held-on-board t facts e held) in
@@ -41,18 +41,18 @@ module _ (t : ℕ → ℕ → Answer) (facts : StoreFacts t) where
         (e, held, omega (arith, b .topped 0 a 0 e))
 
     key-falls : (l n k p : ℕ) → Keyed f t l n k p → KeyFalls f t l n k
-    key-falls l n k p (inr h) j i k' p' e lt h' = let k≡ = h .amount in omega (arith, topped j (4 * n + i) k' p' h')
+    key-falls l n k p (inr h) j i k' p' e lt h' = let k≡ = h .amount in omega (arith, topped j (parts * n + i) k' p' h')
     key-falls l n k p (inl h) j i k' p' e lt h' =
         let on = counted-on-board t facts l p (h .counted) .0 in
         let q = facts .counted-quarter j p (omega arith) (subst (λ m. Counts (t m p)) e (h .counted)) in
-        let z : far f j (4 * n + i) j (4 * p + q .0) ≤ far f l n l p =
-        subst (λ m. far f j (4 * n + i) j (4 * p + q .0) ≤ far f m n m p) (sym e) (b .quarters-far j n j p i (q .0) lt (q .1)) in
+        let z : far f j (parts * n + i) j (parts * p + q .0) ≤ far f l n l p =
+        subst (λ m. far f j (parts * n + i) j (parts * p + q .0) ≤ far f m n m p) (sym e) (b .quarters-far j n j p i (q .0) lt (q .1)) in
         let k≡ = h .amount in
         go h' (q .0) (q .2) (omega arith)
       where
-        go : Keyed f t j (4 * n + i) k' p' → (r : ℕ) → Counts (t j (4 * p + r)) → far f j (4 * n + i) j (4 * p + r) ≤ k → k' ≤ k
-        go (inl g) r o z = le-trans (g .least (4 * p + r) o) z
-        go (inr g) r o z = absurd (g .none (4 * p + r) o)
+        go : Keyed f t j (parts * n + i) k' p' → (r : ℕ) → Counts (t j (parts * p + r)) → far f j (parts * n + i) j (parts * p + r) ≤ k → k' ≤ k
+        go (inl g) r o z = le-trans (g .least (parts * p + r) o) z
+        go (inr g) r o z = absurd (g .none (parts * p + r) o)
 
     cell-key : (n k p e : ℕ) → n < codes → Holds t e → Keyed f t 0 n k p → Nearest (distance f) (Holds t) n p × (k ≡ distance f n p)
     cell-key n k p e lt held (inr h) = absurd (h .none e held)

@@ -14,7 +14,7 @@ use Rattle.std.proofs.shelf.Tests.{cases-lt, cases-eq, both-ways}
 use Rattle.std.proofs.shelf.Sorted.{all-shuffled, shuffled-sym, sumBy-shuffled}
 use Rattle.std.proofs.shelf.Sums.{sumBy-cons}
 use Rattle.board.specs.Distances.{near, far, Bounds}
-use Rattle.board.specs.Limits.{edge}
+use Rattle.board.specs.Limits.{edge, parts, top}
 use Rattle.board.specs.declared.square.Square.{Square}
 use Rattle.store.specs.declared.store.Answer.{Answer}
 use Rattle.store.specs.Stores.{Counts, StoreFacts}
@@ -41,7 +41,7 @@ use Rattle.search.proofs.Ranked.{neighbours-are-ordered}
 pub record Waits (l : ℕ) (near : ℕ → ℕ → ℕ) (D : ℕ → Type 0) (v : WaitingList Neighbour) : Type 0 where
   pub ready : Ready ordered v
   pub entries : All (Entry l near) (waiting v)
-  pub covers : Covers (λ x. x .square) l (Under l 16 0) D (waiting v)
+  pub covers : Covers (λ x. x .square) l (Under l top 0) D (waiting v)
 
 -- what is in order behind x is no nearer
 no-nearer : (x y : Neighbour) → isLt (before y x) ≡ false → x .amount ≤ y .amount
@@ -54,39 +54,39 @@ no-nearer x y h = go (cases-lt (y .amount) (x .amount))
 -- what lies in none of the squares is done, and what lies in one is too
 all-done : {X : Type 0} (at : X → Square) (l q : ℕ) (D : Type 0) (xs : List X) → All (λ x. Under l (at x .level) (at x .number) q → D) xs → (All (λ x. Outside l q (at x)) xs → D) → D
 all-done at l q D [] h k = k tt
-all-done at l q D (x ∷ xs) h k = ⊎-elim (h .0) (λ n. all-done at l q D xs (h .1) (λ o. k (n, o))) (cases-eq (q / 4 ^ (at x .level - l)) (at x .number))
+all-done at l q D (x ∷ xs) h k = ⊎-elim (h .0) (λ n. all-done at l q D xs (h .1) (λ o. k (n, o))) (cases-eq (q / parts ^ (at x .level - l)) (at x .number))
 
 module _ (l : ℕ) (near : ℕ → ℕ → ℕ) where
-  pub waits-begins : (D : ℕ → Type 0) (v w : WaitingList Neighbour) (s : Square) → s .level ≡ 16 → s .number ≡ 0 → waiting v ≡ [] → Ready ordered v → Offered l near D (s ∷ []) v w → Waits l near D w
+  pub waits-begins : (D : ℕ → Type 0) (v w : WaitingList Neighbour) (s : Square) → s .level ≡ top → s .number ≡ 0 → waiting v ≡ [] → Ready ordered v → Offered l near D (s ∷ []) v w → Waits l near D w
   waits-begins D v w s i j e r o = record {
     ready = o .ready r;
     entries = o .entries (subst (All (Entry l near)) (sym e) tt);
-    covers = λ q u out. o .covers q out .1 .0 (subst (λ m. Under l m (s .number) q) (sym i) (subst (λ n. Under l 16 n q) (sym j) u));
+    covers = λ q u out. o .covers q out .1 .0 (subst (λ m. Under l m (s .number) q) (sym i) (subst (λ n. Under l top n q) (sym j) u));
   }
 
   -- the quarters of the first were offered
   pub waits-spread : (D D' : ℕ → Type 0) (x : Neighbour) (v w w' : WaitingList Neighbour) → Waits l near D v → Taken ordered v (Some x) w → ((q : ℕ) → D q → D' q)
-      → Offered l near D' (piled (quarter (x .square)) 4 []) w w' → Waits l near D' w'
+      → Offered l near D' (piled (quarter (x .square)) parts []) w w' → Waits l near D' w'
   waits-spread D D' x v w w' h t keep o =
       let es = all-shuffled (Entry l near) (waiting v) (x ∷ waiting w) (t .0) (h .entries) in
       let s = x .square in
-      let cov : Covers (λ y. y .square) l (Under l 16 0) D (x ∷ waiting w) = λ q p out. h .covers q p (all-shuffled (λ y. Outside l q (y .square)) (x ∷ waiting w) (waiting v) (shuffled-sym _ _ (t .0)) out) in
+      let cov : Covers (λ y. y .square) l (Under l top 0) D (x ∷ waiting w) = λ q p out. h .covers q p (all-shuffled (λ y. Outside l q (y .square)) (x ∷ waiting w) (waiting v) (shuffled-sym _ _ (t .0)) out) in
       record {
         ready = o .ready (λ a. t .1 a (h .ready a) .0);
         entries = o .entries (es .1);
-        covers = covers-next (λ y. y .square) l (Under l 16 0) D D' x (waiting w) (waiting w') keep (λ q out. o .covers q out .0)
+        covers = covers-next (λ y. y .square) l (Under l top 0) D D' x (waiting w) (waiting w') keep (λ q out. o .covers q out .0)
             (λ q p u out.
-            let k = (q / 4 ^ (s .level - 1 - l)) % 4 in
-            piled-each (quarter s) (λ r. Under l (r .level) (r .number) q → D' q) 4 [] (o .covers q out .1) k (omega arith) (under-quarter l (s .level) (s .number) q (es .0 .above) u))
+            let k = (q / parts ^ (s .level - 1 - l)) % parts in
+            piled-each (quarter s) (λ r. Under l (r .level) (r .number) q → D' q) parts [] (o .covers q out .1) k (omega arith) (under-quarter l (s .level) (s .number) q (es .0 .above) u))
             cov;
       }
 
-  pub lighter-spread : (D : ℕ → Type 0) (x : Neighbour) (v w w' : WaitingList Neighbour) → Taken ordered v (Some x) w → 0 < x .square .level → Offered l near D (piled (quarter (x .square)) 4 []) w w'
+  pub lighter-spread : (D : ℕ → Type 0) (x : Neighbour) (v w w' : WaitingList Neighbour) → Taken ordered v (Some x) w → 0 < x .square .level → Offered l near D (piled (quarter (x .square)) parts []) w w'
       → sumBy (λ y. weight (y .square)) (waiting w') < sumBy (λ y. weight (y .square)) (waiting v)
   lighter-spread D x v w w' t h o =
       let f : Neighbour → ℕ = λ y. weight (y .square) in
       let s = x .square in
-      omega (arith, o .lighter, sumBy-shuffled f (waiting v) (x ∷ waiting w) (t .0), sumBy-cons f x (waiting w), piled-sum (quarter s) weight (5 ^ (s .level - 1)) 4 [] (λ j. refl), weight-pos (quarter s 0), fifth s h)
+      omega (arith, o .lighter, sumBy-shuffled f (waiting v) (x ∷ waiting w) (t .0), sumBy-cons f x (waiting w), piled-sum (quarter s) weight ((parts + 1) ^ (s .level - 1)) parts [] (λ j. refl), weight-pos (quarter s 0), fifth s h)
 
   pub lighter-cleared : (x : Neighbour) (v w w' : WaitingList Neighbour) → Taken ordered v (Some x) w → waiting w' ≡ []
       → sumBy (λ y. weight (y .square)) (waiting w') < sumBy (λ y. weight (y .square)) (waiting v)
@@ -125,7 +125,7 @@ module _ (f : ℕ → ℕ → ℕ) (t : ℕ → ℕ → Answer) (l n : ℕ) wher
       inl record { counted = g .0; amount = g .1; least = λ q o. k q o .0; earliest = λ q o i. k q o .1 (sym i) }
 
   -- above the board's level no square counts
-  pub keyed-above : StoreFacts t → 16 < l → Keyed f t l n (f edge edge) 0
+  pub keyed-above : StoreFacts t → top < l → Keyed f t l n (f edge edge) 0
   keyed-above facts h = inr record { none = λ q o. omega (arith, counted-on-board t facts l q o .0); amount = refl; zero = refl }
 
 -- when nothing waits any more, all is done, in the words of the aim a that the hunt began with
@@ -133,6 +133,6 @@ pub finished : {B M : Type 0} (answers : B → ℕ → ℕ → Answer) (amount :
     → (w : WaitingList Neighbour) → waiting w ≡ [] → Waits (u .aim .of .level) (near-to answers amount (u .aim)) (done answers amount v) w → (q : ℕ) → Done (table answers amount a) (far-from answers amount a) (v .best) q
 finished answers amount a u v i j facts w e h q o =
     let l = a .of .level in
-    let c : Covers (λ x. x .square) l (Under l 16 0) (done answers amount v) (waiting w) = subst (λ x. Covers (λ y. y .square) (x .of .level) (Under (x .of .level) 16 0) (done answers amount v) (waiting w)) i (h .covers) in
+    let c : Covers (λ x. x .square) l (Under l top 0) (done answers amount v) (waiting w) = subst (λ x. Covers (λ y. y .square) (x .of .level) (Under (x .of .level) top 0) (done answers amount v) (waiting w)) i (h .covers) in
     let d : Done (table answers amount (v .aim)) (far-from answers amount (v .aim)) (v .best) q = c q (counted-under (answers (a .store .now)) facts l q o) (subst (All (λ x. Outside l q (x .square))) (sym e) tt) in
     subst (λ x. Done (table answers amount x) (far-from answers amount x) (v .best) q) j d o

@@ -13,16 +13,16 @@ use Rattle.search.specs.declared.neighbour.Neighbour.{Neighbour}
 abbrev pub first-code : Neighbour → ℕ
 first-code x = x .square .number * parts ^ min (x .square .level) top
 
--- how x ranks beside y; the number decides only between squares that are not on the board
+-- how x ranks beside y
 abbrev pub before : Neighbour → Neighbour → Ordering
-before x y = thenBy (thenBy (thenBy (rank (x .amount) (y .amount)) (rank (first-code x) (first-code y))) (rank (y .square .level) (x .square .level))) (rank (x .square .number) (y .square .number))
+before x y = thenBy (thenBy (rank (x .amount) (y .amount)) (rank (first-code x) (first-code y))) (rank (y .square .level) (x .square .level))
 
 abbrev pub ordered : Neighbour → Neighbour → Ordering → Type 0
 ordered x y r = r ≡ before x y
 
 -- it is a total order
 abbrev pub neighbours : Total ordered
-neighbours = viewed (pairs (pairs (pairs unsigned unsigned) (turned unsigned)) unsigned) (λ (x : Neighbour). (((x .amount, first-code x), x .square .level), x .square .number))
+neighbours = viewed (pairs (pairs unsigned unsigned) (turned unsigned)) (λ (x : Neighbour). ((x .amount, first-code x), x .square .level))
 
 -- it goes by the amount, then by the first code, then by the level, the highest first; and calls no two neighbours equal
 pub record Neighbours-are-ordered : Type 0 where

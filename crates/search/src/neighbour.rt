@@ -39,8 +39,7 @@ pub impl Ord for Neighbour as NeighbourOrd {
         let by_amount = self.amount.cmp(&other.amount);
         let by_code = first_code(self).cmp(&first_code(other));
         let by_level = other.square.level.cmp(&self.square.level);
-        let by_number = self.square.number.cmp(&other.square.number);
-        by_amount.then(by_code).then(by_level).then(by_number)
+        by_amount.then(by_code).then(by_level)
     }
 }
 

@@ -7,6 +7,7 @@ use Rattle.std.specs.shelf.Lists.{All}
 use Rattle.std.proofs.shelf.Sorted.{all-shuffled}
 use Rattle.board.specs.Distances.{near, far}
 use Rattle.board.proofs.Bounded.{bounds}
+use Rattle.board.specs.Limits.{parts}
 use Rattle.search.specs.declared.hunt.Aim.{Aim}
 use Rattle.search.specs.declared.hunt.Hunt.{Hunt}
 use Rattle.search.specs.Descents.{Under, Outside, quarter}
@@ -93,7 +94,7 @@ loop-next-less g c =
     let l = u .aim .of .level in
     let m = c .loop-next .inv .0 .from u (refl, λ f. f) in
     let t = c .in-Some .ensures tt .loses-first-or-none in
-    let o = subst (λ a. Offered (a .of .level) (near a) D (piled (quarter (x .square)) 4 []) (c .take .last .self) (c .spread .last .list)) (m .0) (c .spread .ensures .offered) in
+    let o = subst (λ a. Offered (a .of .level) (near a) D (piled (quarter (x .square)) parts []) (c .take .last .self) (c .spread .last .list)) (m .0) (c .spread .ensures .offered) in
     let e = all-shuffled (Entry l (near (u .aim))) (waiting (c .loop-next .neighbours)) (x ∷ waiting (c .take .last .self)) (t .0) (c .loop-next .inv .1 .entries) .0 in
     lighter-spread l (near (u .aim)) D x (c .loop-next .neighbours) (c .take .last .self) (c .spread .last .list) t (omega (arith, e .above)) o
 
@@ -107,7 +108,7 @@ loop-next-again g c =
     let w = c .spread .last .hunt in
     let m = c .loop-next .inv .0 .from u (refl, λ f. f) in
     let t = c .in-Some .ensures tt .loses-first-or-none in
-    let o = subst (λ a. Offered (a .of .level) (near a) (D w) (piled (quarter (x .square)) 4 []) (c .take .last .self) (c .spread .last .list)) (m .0) (c .spread .ensures .offered) in (
+    let o = subst (λ a. Offered (a .of .level) (near a) (D w) (piled (quarter (x .square)) parts []) (c .take .last .self) (c .spread .last .list)) (m .0) (c .spread .ensures .offered) in (
       later-onward (c .loop-next .inv .0) (c .spread .ensures .hunted),
       waits-spread (u .aim .of .level) (near (u .aim)) (D v) (D w) x (c .loop-next .neighbours) (c .take .last .self) (c .spread .last .list) (c .loop-next .inv .1) t (c .spread .ensures .hunted .keeps) o,
       c .spread .ensures .offered .space ∙ c .take .ensures .same-room ∙ c .loop-next .inv .2,

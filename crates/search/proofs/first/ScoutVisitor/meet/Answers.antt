@@ -4,6 +4,7 @@ use Prim.Native.Nat.{_*_, _^_, _<_}
 use Rattle.std.proofs.shelf.Tests.{false≢true}
 use Rattle.store.specs.declared.store.Answer.the-variants.{Empty}
 use Rattle.store.specs.Stores.{counts, Counts, Holds}
+use Rattle.board.specs.Limits.{parts}
 use Rattle.search.specs.Firsts.{FirstHeld}
 use Rattle.search.proofs.Counting.{not-both, empty-under}
 use Rattle.search.proofs.Laters.{later-same}
@@ -38,7 +39,7 @@ returns-then-counts g c =
       stops-at-floor = λ e. absurd (false≢true e);
       met = λ r.
           let first : FirstHeld t (s .number) = first-found t (v .first) (s .number) (unset (v .first) (c .if-is-some .ensures tt)) held
-          (λ d lt. r .in-order d (omega arith) (subst (λ l. d * 4 ^ 0 < s .number * 4 ^ l) (sym e) (omega arith))) in
+          (λ d lt. r .in-order d (omega arith) (subst (λ l. d * parts ^ 0 < s .number * parts ^ l) (sym e) (omega arith))) in
           record {
             later = record {
               same = refl;

@@ -4,6 +4,7 @@ use mathlib.Core.Path.{_≡_, sym, ap, ap₂, _∙_}
 use mathlib.Core.List.{_∷_}
 use Prim.Native.Nat.{_-_}
 use lib.ListN.{length}
+use Rattle.board.specs.Limits.{parts}
 use Rattle.search.specs.Piles.{piled}
 use Rattle.search.specs.Stacks.{held, from-last}
 use Rattle.search.proofs.Below.{square-is}
@@ -25,7 +26,7 @@ loop-k-again c =
     elim (c .match-quarter .came) [
       | in-Some w ↦
           let h = w .in-Some .ensures tt .quarter-or-none in
-          let new : w .in-Some .quarter ≡ from-last s k = square-is (w .in-Some .quarter) s (3 - k) (h .1) (h .2) in
+          let new : w .in-Some .quarter ≡ from-last s k = square-is (w .in-Some .quarter) s (parts - 1 - k) (h .1) (h .2) in
           ap held (w .stack-is) ∙ w .push .ensures ∙ ap₂ _∷_ new (c .loop-k .inv) ∙ ap (λ n. piled (from-last s) n ss) (sym (add-one k))
       | in-rest w ↦ absurd (w .in-rest .ensures tt .quarter-or-none (c .pre .quarters .0, c .pre .quarters .1, omega arith))
     ]
