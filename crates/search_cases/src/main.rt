@@ -40,6 +40,11 @@ static CODES: [u32; 7] = [0, 3, 9, 28, 45, 54, 63];
 
 static OTHERS: [u32; 4] = [12, 30, 33, 51];
 
+// The cells (1, 1) and (6, 2), and the cells (1, 2) and (3, 6).
+static FILM: [u32; 2] = [3, 28];
+
+static DRAWING: [u32; 2] = [9, 45];
+
 // Cells all over the board, and cells from which they are looked for.
 static WIDE: [u32; 8] = [
     0,
@@ -232,6 +237,82 @@ fn rectangle(west: u16, south: u16, east: u16, north: u16) -> Result<Rectangle, 
     }
 }
 
+// Tries each cell of a film that a walk meets, and keeps the first of those that lie farthest from the drawing.
+#[derive(Drop)]
+struct Trial<'a, A, B, M> {
+    film: A,
+    drawing: B,
+    measure: M,
+    neighbours: WaitingList<'a, Neighbour>,
+    low: Amount,
+    pair: Option<(u32, u32)>,
+}
+
+impl<'a, A: Store, B: Store, M: Measure> Visitor for Trial<'a, A, B, M> as TrialVisitor {
+    ghost floor = { λ _. 0 };
+
+    ghost since = { λ _. 0 };
+
+    ghost done = { λ _ _. Unit {0} };
+
+    ghost comes = { λ _ _. Unit {0} };
+
+    fn floor(&self) -> u8 {
+        0
+    }
+
+    fn meet(&mut self, s: Square) -> bool {
+        if self.film.query(s) == Answer::Empty {
+            return false;
+        }
+        if s.level > 0 {
+            return true;
+        }
+        let (key, partner) = nearest(s, &self.drawing, &self.measure, &mut self.neighbours);
+        if self.pair.is_none() || self.low < key {
+            self.low = key;
+            self.pair = Some((s.number, partner));
+        }
+        false
+    }
+}
+
+// How far one list strays from the other, and the pair that shows it.
+fn show_distance<A: Store + Drop, B: Store + Drop, M: Measure + Drop>(
+    rt: &LibcRuntime,
+    name: &str,
+    film: A,
+    drawing: B,
+    measure: M,
+) -> Result<(), AnyError> {
+    let mut places = [entry(0, 0, 0); 4];
+    let mut trial = Trial {
+        film,
+        drawing,
+        measure,
+        neighbours: WaitingList::new(&mut places),
+        low: 0,
+        pair: None,
+    };
+    let board = Square {
+        level: TOP,
+        number: 0,
+    };
+    walk(&mut trial, board);
+    let low = trial.low;
+    match trial.pair {
+        None => println!(rt, "  {name}: no pair")?,
+        Some((film, drawing)) => {
+            let a = Cell::from_code(film);
+            let b = Cell::from_code(drawing);
+            let (x, y) = (a.x, a.y);
+            let (u, v) = (b.x, b.y);
+            println!(rt, "  {name}: {low} {x} {y} {u} {v}")?;
+        }
+    }
+    Ok(())
+}
+
 // Adds to a list of three places until it is full, and takes until it is empty.
 fn show_list(rt: &LibcRuntime) -> Result<(), AnyError> {
     println!(rt, "a list of three places")?;
@@ -275,6 +356,15 @@ fn run(rt: &LibcRuntime) -> Result<(), AnyError> {
     show_store(rt, "window over a list", &Window::over(frame, list))?;
     let either = Either::of(others, Window::over(inner, list));
     show_store(rt, "either of a list and a window", &either)?;
+    let mut film = CodeList::empty();
+    fill(&mut film, &FILM)?;
+    let mut drawing = CodeList::empty();
+    fill(&mut drawing, &DRAWING)?;
+    println!(rt, "a film and a drawing")?;
+    show_distance(rt, "square", film, drawing, Squared)?;
+    show_distance(rt, "sum", film, drawing, Sum)?;
+    show_distance(rt, "greater", film, drawing, Greater)?;
+    show_distance(rt, "square, turned", drawing, film, Squared)?;
     println!(rt, "cells far apart")?;
     show_cells(rt, &wide)?;
     show_wide(rt, "square", &wide, &Squared)?;

@@ -15,7 +15,7 @@ use board::square::Square;
 
 impl Stack {
     // A stack that holds s alone.
-    pub fn of(s: Square) -> Stack
+    pub(crate) fn of(s: Square) -> Stack
         ensures { λ r. ⌜ held r ≡ s ∷ [] ⌝ }
     {
         Stack {
@@ -24,7 +24,7 @@ impl Stack {
         }
     }
 
-    pub fn push(&mut self, s: Square)
+    pub(crate) fn push(&mut self, s: Square)
         requires { ⌜ length (held (now self)) < places ⌝ }
         ensures { λ _. ⌜ held (now (self .exit)) ≡ s ∷ held (now (self .entry)) ⌝ }
     {
@@ -32,7 +32,7 @@ impl Stack {
         self.count += 1;
     }
 
-    pub fn pop(&mut self) -> Option<Square>
+    pub(crate) fn pop(&mut self) -> Option<Square>
         ensures { λ r. ⌜ BySome r (held (now (self .entry)) ≡ []) (λ s. held (now (self .entry)) ≡ s ∷ held (now (self .exit))) ⌝ }
     {
         if self.count == 0 {
@@ -44,7 +44,7 @@ impl Stack {
 }
 
 // Puts the quarters of s on the stack, the first on top.
-pub fn open(stack: &mut Stack, s: Square)
+pub(crate) fn open(stack: &mut Stack, s: Square)
     requires room { ⌜ length (held (now stack)) + parts ≤ places ⌝ }
     requires quarters { ⌜ HasQuarter s 0 ⌝ }
     ensures { λ _. ⌜ held (now (stack .exit)) ≡ piled (from-last s) parts (held (now (stack .entry))) ⌝ }
