@@ -28,12 +28,11 @@ module _ (f : ℕ → ℕ → ℕ) (t : ℕ → ℕ → Answer) where
   abbrev pub Keyed : ℕ → ℕ → ℕ → ℕ → Type 0
   Keyed l n k p = Partnered l n k p ⊎ Unpartnered l k p
 
-  -- what the key k of the square n of level l says
-  -- where B holds a cell, no cell of the square is farther from B than k
+  -- what the key k of the square n of level l says: where B holds a cell, no cell of the square is farther from B than k
   abbrev pub KeyBounds : ℕ → ℕ → ℕ → Type 0
   KeyBounds l n k = (a e : ℕ) → a < codes → Inside l n a → Holds t e → Within (distance f) (Holds t) k a
 
-  -- no quarter of the square has a greater key
+  -- the key k of the square n of level l is not below that of any of its quarters
   abbrev pub KeyFalls : ℕ → ℕ → ℕ → Type 0
   KeyFalls l n k = (j i k' p' : ℕ) → l ≡ j + 1 → i < parts → Keyed j (parts * n + i) k' p' → k' ≤ k
 
