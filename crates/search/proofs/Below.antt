@@ -1,5 +1,5 @@
 -- What lies in a square lies in one of its quarters, and between its ends.
-use mathlib.Core.Path.{_≡_, refl, sym, ap, subst, _∙_}
+use mathlib.Core.Path.{_≡_, sym, ap, subst, _∙_}
 use Prim.Native.Nat.{ℕ, zero, suc, _+_, _-_, _*_, _/_, _%_, _^_, _<_, _≤_}
 use native.Mathlib.Nat.{div-one, pow-suc, div-div-eq-div-mul, zero-add, div-mul-le-self, mul-le-mul-right, mul-assoc, suc-mul, le-of-mul-le-mul-right, lt-of-mul-lt-mul-right, mul-comm, mul-le-mul-left}
 use lib.Pow.{pow-add}

@@ -1,20 +1,18 @@
 -- What keys say of distances.
-use mathlib.Core.Path.{_≡_, refl, sym, ap, subst, _∙_}
-use mathlib.Core.Logic.{_⊎_, inl, inr}
-use Prim.Native.Nat.{ℕ, zero, suc, _+_, _*_, _/_, _^_, _<_, _≤_}
-use native.Mathlib.Nat.{le-trans, div-one, pow-suc, div-div-eq-div-mul}
-use native.Mathlib.Numerals.{add-one}
+use mathlib.Core.Path.{_≡_, sym, subst, _∙_}
+use mathlib.Core.Logic.{inl, inr}
+use Prim.Native.Nat.{ℕ, zero, _+_, _*_, _/_, _^_, _<_, _≤_}
+use native.Mathlib.Nat.{le-trans}
 use native.Mathlib.Omega.{arith}
 use Rattle.board.specs.Limits.{edge, codes, most, parts}
 use Rattle.board.specs.Measures.{MeasureLaws}
-use Rattle.board.specs.Squares.{Inside}
 use Rattle.board.specs.Distances.{distance, far, Bounds}
-use Rattle.board.specs.Strays.{Within, Nearest}
+use Rattle.board.specs.Strays.{Nearest}
 use Rattle.board.proofs.Bounded.{bounds}
 use Rattle.store.specs.declared.store.Answer.{Answer}
 use Rattle.store.specs.Stores.{Counts, Holds, StoreFacts}
 use Rattle.store.proofs.Sounds.{counted-holds-a-cell, held-on-board}
-use Rattle.search.specs.Keys.{Partnered, Unpartnered, Keyed, KeyBounds, KeyFalls, KeyOfCell, KeyLaws}
+use Rattle.search.specs.Keys.{Keyed, KeyBounds, KeyFalls, KeyOfCell, KeyLaws}
 use Rattle.search.proofs.Counting.{counted-on-board}
 
 module _ (t : ℕ → ℕ → Answer) (facts : StoreFacts t) where

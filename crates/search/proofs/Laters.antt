@@ -1,5 +1,5 @@
 -- Later on a walk.
-use mathlib.Core.Path.{_≡_, refl, _∙_}
+use mathlib.Core.Path.{refl, _∙_}
 use Prim.Native.Nat.{ℕ}
 use Rattle.search.specs.Visits.{Later}
 

@@ -2,17 +2,16 @@
 use mathlib.Core.Path.{_≡_, refl, sym, ap, subst, _∙_}
 use mathlib.Core.Bool.{true}
 use mathlib.Core.List.{List, [], _∷_}
-use Prim.Native.Nat.{ℕ, _+_, _≤_, _<_}
+use Prim.Native.Nat.{ℕ}
 use native.Mathlib.Omega.{arith}
 use Rattle.std.specs.shelf.Lists.{All, sumBy}
-use Rattle.std.specs.Slices.{Shuffled}
 use Rattle.std.proofs.shelf.Elements.{all-weaker}
 use Rattle.std.proofs.shelf.Sorted.{all-shuffled, shuffled-sym, sumBy-shuffled}
 use Rattle.std.proofs.shelf.Sums.{sumBy-cons}
 use Rattle.board.specs.declared.square.Square.{Square}
 use Rattle.search.specs.declared.waiting.WaitingList.{WaitingList}
 use Rattle.search.specs.declared.neighbour.Neighbour.{Neighbour}
-use Rattle.search.specs.WaitingLists.{waiting, room, Ready, Added, InHeap}
+use Rattle.search.specs.WaitingLists.{waiting, room, Added, InHeap}
 use Rattle.search.specs.Descents.{Under, Outside}
 use Rattle.search.specs.Neighbours.{ordered}
 use Rattle.search.specs.Offers.{weight, Entry, Offered}

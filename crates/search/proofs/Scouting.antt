@@ -1,16 +1,15 @@
 -- The first cell, as a walk finds it.
-use mathlib.Core.Path.{_≡_, refl, sym, ap, subst, _∙_}
+use mathlib.Core.Path.{_≡_, refl, subst}
 use mathlib.Core.Bool.{false}
 use mathlib.Core.Logic.{_⊎_, inl, inr}
 use Prim.Native.Nat.{ℕ, _≤_, _<_}
-use native.Mathlib.Omega.{arith}
 use Rattle.std.specs.declared.option.Option.{Option}
 use Rattle.std.specs.declared.option.Option.the-variants.{None, Some}
 use Rattle.std.specs.Options.{isSome}
 use Rattle.std.proofs.shelf.Tests.{false≢true, cases-lt}
 use Rattle.store.specs.declared.store.Answer.{Answer}
 use Rattle.store.specs.Stores.{Holds}
-use Rattle.search.specs.Firsts.{NoneHeld, FirstHeld, FoundFirst, Searched}
+use Rattle.search.specs.Firsts.{NoneHeld, FirstHeld, Searched}
 
 pub unset : (r : Option ℕ) → false ≡ isSome r → r ≡ None
 unset None e = refl

@@ -1,14 +1,13 @@
 -- The list of neighbours, turn by turn.
-use mathlib.Core.Path.{_≡_, refl, sym, ap, subst, _∙_}
+use mathlib.Core.Path.{_≡_, refl, sym, ap, subst}
 use mathlib.Core.Logic.{_⊎_, inl, inr, ⊎-elim}
-use mathlib.Core.Bool.{true, false}
+use mathlib.Core.Bool.{false}
 use mathlib.Core.List.{List, [], _∷_}
-use Prim.Native.Nat.{ℕ, _+_, _-_, _*_, _/_, _%_, _^_, _≤_, _<_}
+use Prim.Native.Nat.{ℕ, _+_, _-_, _/_, _%_, _^_, _≤_, _<_}
 use native.Mathlib.Omega.{arith}
 use Rattle.std.specs.declared.option.Option.{Option}
 use Rattle.std.specs.declared.option.Option.the-variants.{None, Some}
 use Rattle.std.specs.shelf.Lists.{All, sumBy}
-use Rattle.std.specs.Slices.{Shuffled}
 use Rattle.std.specs.Orderings.{isLt}
 use Rattle.std.proofs.shelf.Tests.{cases-lt, cases-eq, both-ways}
 use Rattle.std.proofs.shelf.Sorted.{all-shuffled, shuffled-sym, sumBy-shuffled}
@@ -17,13 +16,13 @@ use Rattle.board.specs.Distances.{near, far, Bounds}
 use Rattle.board.specs.Limits.{edge, parts, top}
 use Rattle.board.specs.declared.square.Square.{Square}
 use Rattle.store.specs.declared.store.Answer.{Answer}
-use Rattle.store.specs.Stores.{Counts, StoreFacts}
+use Rattle.store.specs.Stores.{StoreFacts}
 use Rattle.search.specs.declared.waiting.WaitingList.{WaitingList}
 use Rattle.search.specs.declared.neighbour.Neighbour.{Neighbour}
 use Rattle.search.specs.declared.hunt.Partner.{Partner}
 use Rattle.search.specs.declared.hunt.Aim.{Aim}
 use Rattle.search.specs.declared.hunt.Hunt.{Hunt}
-use Rattle.search.specs.WaitingLists.{waiting, room, Ready, Taken, FirstIn}
+use Rattle.search.specs.WaitingLists.{waiting, Ready, Taken, FirstIn}
 use Rattle.search.specs.Descents.{Under, Outside, quarter}
 use Rattle.search.specs.Keys.{Keyed}
 use Rattle.search.specs.Neighbours.{before, ordered, neighbours}

@@ -1,15 +1,12 @@
 -- A visitor on its walk, turn by turn.
-use mathlib.Core.Path.{_≡_, refl, sym, ap, subst, _∙_}
+use mathlib.Core.Path.{_≡_, refl, sym, subst, _∙_}
 use mathlib.Core.Bool.{true, false}
-use mathlib.Core.Logic.{_⊎_, inl, inr}
+use mathlib.Core.Logic.{inl, inr}
 use mathlib.Core.List.{List, [], _∷_}
 use Prim.Native.Nat.{ℕ, _<_, _≤_}
-use native.Mathlib.Omega.{arith}
-use Rattle.std.specs.shelf.Lists.{All}
-use Rattle.std.proofs.shelf.Tests.{false≢true}
 use Rattle.board.specs.Squares.{OnBoard}
 use Rattle.board.specs.declared.square.Square.{Square}
-use Rattle.search.specs.Descents.{Under, Outside, Before, starts, ends}
+use Rattle.search.specs.Descents.{Under, Outside, Before, ends}
 use Rattle.search.specs.Visits.{Reached, Later, Met}
 use Rattle.search.proofs.Fronts.{Stacked, Covers, Wanted, quarters, stacked-one, stacked-opens, in-order, covers-closes, covers-opens}
 use Rattle.search.proofs.Laters.{later-same, later-onward}

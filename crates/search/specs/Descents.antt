@@ -1,5 +1,4 @@
 -- What lies in a square, and what lies before it in cell order.
-use mathlib.Core.Path.{_≡_}
 use Prim.Native.Nat.{ℕ, _+_, _-_, _*_, _^_, _<_}
 use Rattle.board.specs.Limits.{parts}
 use Rattle.board.specs.Squares.{Inside}

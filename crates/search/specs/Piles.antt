@@ -1,5 +1,5 @@
 -- Things put on a list one by one.
-use mathlib.Core.List.{List, [], _∷_}
+use mathlib.Core.List.{List, _∷_}
 use Prim.Native.Nat.{ℕ, zero, suc}
 
 -- f 0, .. f (k - 1) put on xs, the last on top

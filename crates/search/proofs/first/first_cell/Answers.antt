@@ -1,11 +1,9 @@
-use mathlib.Core.Path.{_≡_, refl, sym, ap, ap₂, subst, _∙_}
+use mathlib.Core.Path.{_≡_, refl, sym, ap₂, subst, _∙_}
 use native.Mathlib.Omega.{arith}
-use Prim.Native.Nat.{ℕ}
-use Rattle.std.specs.declared.option.Option.the-variants.{None, Some}
+use Rattle.std.specs.declared.option.Option.the-variants.{None}
 use Rattle.board.specs.Findings.{code-of}
 use Rattle.board.specs.Morton.{code}
 use Rattle.board.proofs.Codes.{codes-are-exact}
-use Rattle.store.specs.Stores.{Holds}
 use Rattle.search.specs.declared.first.Scout.{Scout}
 use Rattle.search.specs.Firsts.{FirstHeld, FoundFirst, Searched}
 use Rattle.search.proofs.Counting.{counted-under}

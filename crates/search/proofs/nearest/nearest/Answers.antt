@@ -1,17 +1,15 @@
 use native.Mathlib.Omega.{arith}
-use mathlib.Core.Path.{_≡_, refl, sym, ap, subst, _∙_}
+use mathlib.Core.Path.{refl, sym, subst, _∙_}
 use mathlib.Core.List.{[], _∷_}
-use Prim.Native.Nat.{ℕ, _<_}
-use Rattle.std.specs.declared.option.Option.the-variants.{None, Some}
-use Rattle.std.specs.shelf.Lists.{All}
+use Prim.Native.Nat.{_<_}
+use Rattle.std.specs.declared.option.Option.the-variants.{None}
 use Rattle.std.proofs.shelf.Sorted.{all-shuffled}
-use Rattle.board.specs.Distances.{near, far}
+use Rattle.board.specs.Distances.{near}
 use Rattle.board.proofs.Bounded.{bounds}
 use Rattle.board.specs.Limits.{parts}
-use Rattle.search.specs.declared.hunt.Aim.{Aim}
 use Rattle.search.specs.declared.hunt.Hunt.{Hunt}
-use Rattle.search.specs.Descents.{Under, Outside, quarter}
-use Rattle.search.specs.Hunts.{Done, Found, near-to, done}
+use Rattle.search.specs.Descents.{quarter}
+use Rattle.search.specs.Hunts.{near-to, done}
 use Rattle.search.specs.Keys.{Keyed}
 use Rattle.search.specs.Offers.{Entry, Offered}
 use Rattle.search.specs.Piles.{piled}

@@ -1,4 +1,3 @@
-use mathlib.Core.Path.{_≡_}
 use mathlib.Core.List.{[]}
 use Rattle.search.specs.Descents.{quarter}
 use Rattle.search.specs.Hunts.{Hunted, near-to, done}

@@ -1,6 +1,6 @@
-use native.Mathlib.Nat.{mod-eq-of-lt, mul-le-mul, pow-le-pow-right, le-trans}
+use native.Mathlib.Nat.{mod-eq-of-lt, mul-le-mul, pow-le-pow-right}
 use native.Mathlib.Omega.{arith}
-use mathlib.Core.Path.{_≡_, ap, ap₂, _∙_}
+use mathlib.Core.Path.{_≡_, ap, _∙_}
 use Prim.Native.Nat.{ℕ, _-_, _*_, _%_, _^_, _<_, _≤_, min}
 use Rattle.board.proofs.Boards.{four-power}
 use Rattle.search.proofs.neighbour.first_code.Needs as need

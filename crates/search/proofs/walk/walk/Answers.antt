@@ -1,13 +1,10 @@
-use borrow.Author.Needs.{needs}
-use mathlib.Core.Path.{_≡_, refl, sym, subst, _∙_}
-use mathlib.Core.Bool.{true, false}
+use mathlib.Core.Path.{_≡_, refl, sym, subst}
 use mathlib.Core.List.{List, [], _∷_}
 use native.Mathlib.Omega.{arith}
 use Prim.Native.Nat.{_<_}
 use Rattle.std.specs.shelf.Lists.{sumBy}
 use Rattle.board.specs.declared.square.Square.{Square}
 use Rattle.search.specs.Stacks.{held}
-use Rattle.search.specs.Visits.{Met}
 use Rattle.search.specs.Offers.{weight}
 use Rattle.search.proofs.Fronts.{quarters, lighter-taken, lighter-open}
 use Rattle.search.proofs.Walks.{Walking, walking-begins, walking-opens, walking-closes, walking-ends}

@@ -1,4 +1,4 @@
-use mathlib.Core.Path.{_≡_, refl, sym, subst, _∙_}
+use mathlib.Core.Path.{refl, subst}
 use Rattle.std.proofs.shelf.Tests.{false≢true}
 use Rattle.board.specs.Distances.{near}
 use Rattle.board.proofs.Bounded.{bounds}
