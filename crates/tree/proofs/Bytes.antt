@@ -4,7 +4,7 @@ use mathlib.Core.Logic.{_⊎_, inl, inr}
 use mathlib.Core.Bool.{Bool, true, false, cond}
 use mathlib.Core.List.{List, [], _∷_, _++_, map}
 use Prim.Native.Nat.{ℕ, zero, suc, _+_, _-_, _*_, _/_, _%_, _^_, _<_, _≤_}
-use native.Mathlib.Nat.{pow-suc, div-div-eq-div-mul, div-eq-of-lt, mul-one, add-zero, mod-one, mod-eq-of-lt, mod-lt, add-assoc}
+use native.Mathlib.Nat.{pow-suc, div-div-eq-div-mul, div-eq-of-lt, mul-one, add-zero, mod-one, mod-eq-of-lt, mod-lt, add-assoc, add-comm}
 use native.Mathlib.Numerals.{add-one}
 use native.Mathlib.Omega.{arith}
 use lib.ListN.{length, getD, take, drop}
@@ -76,6 +76,35 @@ pub ones-byte : (bytes : List ℕ) (k : ℕ) → getD bytes k 0 < 256 → ones-b
 ones-byte bytes k h =
     let e : 8 * (k + 1) ≡ 8 * k + 8 = omega arith in
     ap (ones-before bytes) e ∙ ones-part bytes k 8 (omega arith) ∙ ap (λ x. ones-before bytes (8 * k) + count.ones x) (mod-eq-of-lt h)
+
+-- the number of n bytes from byte at + k on, the first of them lowest
+abbrev pub number : List ℕ → ℕ → ℕ → ℕ → ℕ
+number bytes at k zero = 0
+number bytes at k (suc n) = getD bytes (at + k) 0 + 256 * number bytes at (suc k) n
+
+-- a byte, and what stands above it, are counted apart
+ones-low : (low high : ℕ) → low < 256 → count.ones (low + 256 * high) ≡ count.ones low + count.ones high
+ones-low low high h =
+    let e : low + 256 * high ≡ high * 2 ^ 8 + low = omega arith in
+    ap count.ones e ∙ count.ones-cat 8 high low h ∙ add-comm (count.ones high) (count.ones low)
+
+-- so the ones of that number are the ones of its bytes
+pub ones-number : (bytes : List ℕ) (at k n : ℕ) → ((j : ℕ) → getD bytes j 0 < 256)
+    → ones-before bytes (8 * (at + k)) + count.ones (number bytes at k n) ≡ ones-before bytes (8 * (at + (k + n)))
+ones-number bytes at k zero small =
+    let e : 8 * (at + k) ≡ 8 * (at + (k + 0)) = omega arith in
+    omega (arith, ones-digit 0 (omega arith), ap (ones-before bytes) e)
+ones-number bytes at k (suc n) small =
+    let a : 8 * (at + suc k) ≡ 8 * (at + k + 1) = omega arith in
+    let b : 8 * (at + (suc k + n)) ≡ 8 * (at + (k + suc n)) = omega arith in
+    omega (
+      arith,
+      ones-low (getD bytes (at + k) 0) (number bytes at (suc k) n) (small (at + k)),
+      ones-byte bytes (at + k) (small (at + k)),
+      ones-number bytes at (suc k) n small,
+      ap (ones-before bytes) a,
+      ap (ones-before bytes) b,
+    )
 
 ones-few : (bs : List Bool) → ones bs ≤ length bs
 ones-few [] = omega arith

@@ -38,13 +38,44 @@ pub(crate) fn spares_clear(bytes: &[u8], bits: usize) -> bool
     bits % 8 == 0 || bytes[bits / 8] >> (bits % 8) == 0
 }
 
-// How many bits of the bytes from one to another are 1.
+// How many bits of the eight bytes from one on are 1.
+fn ones_of_word(bytes: &[u8], at: usize) -> usize
+    requires { ⌜ at + 8 ≤ length (now bytes) ⌝ }
+    ensures { λ r. ⌜ ones-before (now (bytes .entry)) (8 * at) + r ≡ ones-before (now (bytes .entry)) (8 * (at + 8)) ⌝ }
+{
+    let word = u64::from_le_bytes([
+        bytes[at],
+        bytes[at + 1],
+        bytes[at + 2],
+        bytes[at + 3],
+        bytes[at + 4],
+        bytes[at + 5],
+        bytes[at + 6],
+        bytes[at + 7],
+    ]);
+    word.count_ones() as usize
+}
+
+// How many bits of so many words of eight bytes, from one byte on, are 1.
+fn ones_of_words(bytes: &[u8], from: usize, words: usize) -> usize
+    requires { ⌜ from + 8 * words ≤ length (now bytes) ⌝ ∗ ⌜ length (now bytes) ≤ 2 ^ 20 ⌝ }
+    ensures { λ r. ⌜ ones-before (now (bytes .entry)) (8 * from) + r ≡ ones-before (now (bytes .entry)) (8 * (from + 8 * words)) ⌝ }
+{
+    let mut sum = 0usize;
+    for k in 0..words {
+        sum += ones_of_word(bytes, from + 8 * k);
+    }
+    sum
+}
+
+// How many bits of the bytes from one to another are 1: by words of eight bytes, then by the bytes left.
 pub(crate) fn ones_of_bytes(bytes: &[u8], from: usize, to: usize) -> usize
     requires { ⌜ from ≤ to ⌝ ∗ ⌜ to ≤ length (now bytes) ⌝ ∗ ⌜ length (now bytes) ≤ 2 ^ 20 ⌝ }
     ensures { λ r. ⌜ ones-before (now (bytes .entry)) (8 * from) + r ≡ ones-before (now (bytes .entry)) (8 * to) ⌝ }
 {
-    let mut sum = 0usize;
-    for k in from..to {
+    let words = (to - from) / 8;
+    let mut sum = ones_of_words(bytes, from, words);
+    for k in from + 8 * words..to {
         sum += bytes[k].count_ones() as usize;
     }
     sum
