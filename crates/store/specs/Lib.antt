@@ -1,1 +1,13 @@
 pub mod Stores
+pub mod Exact
+pub mod ExactFacts
+pub mod BlockFacts
+pub mod Places
+pub mod PlaceFacts
+pub mod Rectangles
+pub mod RectangleFacts
+pub mod Windows
+pub mod WindowFacts
+pub mod Eithers
+pub mod EitherFacts
+pub mod Sound

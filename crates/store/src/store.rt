@@ -3,7 +3,7 @@ ghost use denote.Ref.{now};
 ghost use mathlib.Core.Path.{_≡_};
 ghost use Prim.Native.Nat.{ℕ};
 ghost use Rattle.store.specs.declared.store.Answer.{Answer};
-ghost use Rattle.store.specs.Stores.{StoreFacts};
+ghost use Rattle.store.specs.Stores.{StoreFacts, counts};
 use board::square::Square;
 
 // What a store says of a square.
@@ -15,6 +15,18 @@ pub enum Answer {
     Occupied,
     // it may hold a cell
     Unknown,
+}
+
+impl Answer {
+    // Whether the answer says that the square holds a cell.
+    pub fn counts(self) -> bool
+        ensures value { λ r. ⌜ r ≡ counts self ⌝ }
+    {
+        match self {
+            Answer::Occupied => true,
+            Answer::Empty | Answer::Unknown => false,
+        }
+    }
 }
 
 pub trait Store {
