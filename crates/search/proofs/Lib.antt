@@ -1,0 +1,14 @@
+pub mod Bags
+pub mod Ranked
+pub mod Piled
+pub mod Stacked
+pub mod Below
+pub mod Fronts
+pub mod Laters
+pub mod Walks
+pub mod Counting
+pub mod Scouting
+pub mod Hunting
+pub mod Offering
+pub mod Searching
+pub mod Keying

@@ -1,0 +1,11 @@
+pub mod Orders
+pub mod WaitingLists
+pub mod Neighbours
+pub mod Descents
+pub mod Piles
+pub mod Stacks
+pub mod Visits
+pub mod Firsts
+pub mod Keys
+pub mod Hunts
+pub mod Offers
