@@ -1,0 +1,5 @@
+pub mod Ranked
+pub mod Keying
+pub mod Existing
+pub mod Handling
+pub mod Keeping
