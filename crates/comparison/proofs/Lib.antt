@@ -3,3 +3,5 @@ pub mod Keying
 pub mod Existing
 pub mod Handling
 pub mod Keeping
+pub mod Diving
+pub mod Advancing

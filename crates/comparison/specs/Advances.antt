@@ -28,14 +28,14 @@ module _ {A B M : Type 0} (film : A → ℕ → ℕ → Answer) (drawing : B →
     pub same-world : world film drawing amount c' ≡ world film drawing amount c
     pub in-order : InOrder c → InOrder c'
     pub waits : Shuffled (waiting (c' .suspects)) (es ++ waiting (c .suspects))
-    pub begun : c' .record .begun ≡ c .record .begun
-    pub queued : c' .record .queued ≡ counted (c .record .queued) (length es)
+    pub begun : c' .progress .begun ≡ c .progress .begun
+    pub queued : c' .progress .queued ≡ counted (c .progress .queued) (length es)
 
   pub record Offered (c : Comparison A B M) (q : Square) (c' : Comparison A B M) : Type 0 where
     pub es : List Suspect
     pub queues : Queues c es c'
     pub figures : c' .trial .figures ≡ c .trial .figures
-    pub taken : c' .record .taken ≡ c .record .taken
+    pub taken : c' .progress .taken ≡ c .progress .taken
     pub offer : Offer (world film drawing amount c) (c .trial .figures) q es
 
   -- the first k quarters of the square n of level l + 1 were offered
@@ -43,12 +43,12 @@ module _ {A B M : Type 0} (film : A → ℕ → ℕ → Answer) (drawing : B →
     pub es : List Suspect
     pub queues : Queues c es c'
     pub figures : c' .trial .figures ≡ c .trial .figures
-    pub taken : c' .record .taken ≡ c .record .taken
+    pub taken : c' .progress .taken ≡ c .progress .taken
     pub picked : Picked (world film drawing amount c) (c .trial .figures) l n k es
 
   -- the suspect s, which was taken from the list, was handled and counted
   pub record Handles (c : Comparison A B M) (s : Suspect) (c' : Comparison A B M) : Type 0 where
     pub es : List Suspect
     pub queues : Queues c es c'
-    pub taken : c' .record .taken ≡ counted (c .record .taken) 1
+    pub taken : c' .progress .taken ≡ counted (c .progress .taken) 1
     pub handled : Handled (world film drawing amount c) s (room (c .suspects) - length (waiting (c .suspects))) (c .trial .figures) es (c' .trial .figures)

@@ -31,10 +31,10 @@ told k (Err f) = Refused f
 module _ {A B M : Type 0} where
   abbrev pub state : Comparison A B M → State
   state c = record {
-    begun = c .record .begun;
+    begun = c .progress .begun;
     figures = c .trial .figures;
-    queued = c .record .queued;
-    taken = c .record .taken;
+    queued = c .progress .queued;
+    taken = c .progress .taken;
     waiting = waiting (c .suspects) }
 
   -- what `new` gives and every call keeps: the suspects are squares of the board in heap order, and no neighbour waits

@@ -1,7 +1,7 @@
 // What a comparison keeps of its search.
 ghost use mathlib.Core.Logic.{_⊎_};
 ghost use mathlib.Core.Path.{_≡_};
-ghost use Prim.Native.Nat.{_<_};
+ghost use Prim.Native.Nat.{_<_, _≤_};
 ghost use Rattle.comparison.specs.Calls.{Improves, counted};
 ghost use Rattle.std.specs.Orderings.{Decides};
 use board::measure::Amount;
@@ -18,11 +18,12 @@ pub struct Figures {
 }
 
 // Whether the comparison was begun, and since then how many squares were queued and how many taken.
-#[derive(Clone, Copy, PartialEq, Eq, Debug)]
+#[derive(Clone, Copy)]
 pub struct Record {
     pub begun: bool,
     pub queued: u64,
     pub taken: u64,
+    ghost stops: { (queued ≤ 1099511627776) × (taken ≤ 1099511627776) },
 }
 
 impl Figures {

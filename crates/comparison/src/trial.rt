@@ -2,7 +2,11 @@
 ghost use mathlib.Core.Path.{_≡_};
 ghost use Prim.Native.Nat.{ℕ};
 ghost use Rattle.board.specs.Squares.{OnBoard, Inside};
+ghost use Rattle.board.specs.Findings.{code-of};
+ghost use Rattle.search.specs.Firsts.{NoneHeld, FirstHeld};
 ghost use Rattle.search.specs.Keys.{Keyed};
+ghost use Rattle.std.specs.Options.{Cases as BySome};
+ghost use Rattle.store.specs.Stores.{Holds};
 ghost use Rattle.std.specs.Orderings.{Decides};
 ghost use Rattle.store.specs.declared.store.Answer.the-variants.{Empty as empty-answer};
 ghost use Rattle.comparison.specs.Calls.{Tried};
@@ -13,11 +17,13 @@ use board::cell::Cell;
 use board::measure::Amount;
 use board::measure::Measure;
 use board::square::Square;
+use search::first::first_cell;
 use search::nearest::nearest;
 use search::neighbour::Neighbour;
 use search::waiting::WaitingList;
 use search::walk::Visitor;
 use search::walk::walk;
+use store::sound::holds;
 use store::store::Answer;
 use store::store::Store;
 
@@ -44,6 +50,34 @@ pub fn is_empty(answer: Answer) -> bool
 }
 
 impl<'a, A: Store, B: Store, M: Measure> Trial<'a, A, B, M> {
+    // Whether A calls a square empty.
+    pub fn film_empty_at(&self, s: Square) -> bool
+        ensures decides { λ r. ⌜ Decides r (A·Store .answers (now (self .entry) .film) (s .level) (s .number) ≡ empty-answer) ⌝ }
+    {
+        is_empty(self.film.query(s))
+    }
+
+    // Whether A holds a cell.
+    pub fn film_holds(&self, cell: Cell) -> bool
+        ensures decides { λ r. ⌜ Decides r (Holds (A·Store .answers (now (self .entry) .film)) (code-of cell)) ⌝ }
+    {
+        holds(&self.film, cell)
+    }
+
+    // The first cell of A.
+    pub fn first_of_film(&self) -> Option<Cell>
+        ensures first_or_none { λ r. ⌜ BySome r (NoneHeld (A·Store .answers (now (self .entry) .film))) (λ c. FirstHeld (A·Store .answers (now (self .entry) .film)) (code-of c)) ⌝ }
+    {
+        first_cell(&self.film)
+    }
+
+    // The first cell of B.
+    pub fn first_of_drawing(&self) -> Option<Cell>
+        ensures first_or_none { λ r. ⌜ BySome r (NoneHeld (B·Store .answers (now (self .entry) .drawing))) (λ c. FirstHeld (B·Store .answers (now (self .entry) .drawing)) (code-of c)) ⌝ }
+    {
+        first_cell(&self.drawing)
+    }
+
     // The key and the partner of a square.
     pub fn key_of(&mut self, s: Square) -> (Amount, u32)
         ensures keyed { λ r. ⌜ Keyed (M·Measure .amount (now (self .entry) .measure)) (B·Store .answers (now (self .entry) .drawing)) (s .level) (s .number) (r .0) (r .1) ⌝ }
@@ -76,9 +110,8 @@ impl<'a, A: Store, B: Store, M: Measure> Trial<'a, A, B, M> {
 
     // Tries the cells of a square of the board, in depth.
     pub fn try_square(&mut self, s: Square)
-        requires { ⌜ OnBoard (s .level) (s .number) ⌝ }
-        ensures stays { λ _. ⌜ Stays (A·Store .answers) (B·Store .answers) (M·Measure .amount) (now (self .entry)) (now (self .exit)) ⌝ }
-        ensures tried { λ _. ⌜ ((n : ℕ) → Tried (over (A·Store .answers) (B·Store .answers) (M·Measure .amount) n (now (self .entry))) (Inside (s .level) (s .number)) (now (self .entry) .figures) (now (self .exit) .figures)) ⌝ }
+        ensures stays { λ _. ⌜ (OnBoard (s .level) (s .number) → Stays (A·Store .answers) (B·Store .answers) (M·Measure .amount) (now (self .entry)) (now (self .exit))) ⌝ }
+        ensures tried { λ _. ⌜ (OnBoard (s .level) (s .number) → (n : ℕ) → Tried (over (A·Store .answers) (B·Store .answers) (M·Measure .amount) n (now (self .entry))) (Inside (s .level) (s .number)) (now (self .entry) .figures) (now (self .exit) .figures)) ⌝ }
     {
         self.square = s;
         walk(self, s);
@@ -104,9 +137,13 @@ impl<'a, A: Store, B: Store, M: Measure> Visitor for Trial<'a, A, B, M> as Trial
         if s.level > 0 {
             return !is_empty(answer);
         }
-        if answer.counts() && self.square.holds(Cell::from_code(s.number)) {
-            self.try_cell(s.number);
+        if !answer.counts() {
+            return false;
         }
+        if !self.square.holds(Cell::from_code(s.number)) {
+            return false;
+        }
+        self.try_cell(s.number);
         false
     }
 }
