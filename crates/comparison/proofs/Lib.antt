@@ -5,3 +5,4 @@ pub mod Handling
 pub mod Keeping
 pub mod Diving
 pub mod Advancing
+pub mod Calling

@@ -1,9 +1,11 @@
 -- The parts of a step.
 use mathlib.Core.Path.{_≡_}
+use mathlib.Core.Bool.{true}
 use mathlib.Core.List.{List, [], _∷_, _++_}
 use Prim.Native.Nat.{ℕ, _-_}
 use lib.ListN.{length}
 use Rattle.std.specs.Slices.{Shuffled}
+use Rattle.board.specs.Limits.{top}
 use Rattle.board.specs.declared.square.Square.{Square}
 use Rattle.search.specs.WaitingLists.{waiting, room}
 use Rattle.store.specs.declared.store.Answer.{Answer}
@@ -52,3 +54,17 @@ module _ {A B M : Type 0} (film : A → ℕ → ℕ → Answer) (drawing : B →
     pub queues : Queues c es c'
     pub taken : c' .progress .taken ≡ counted (c .progress .taken) 1
     pub handled : Handled (world film drawing amount c) s (room (c .suspects) - length (waiting (c .suspects))) (c .trial .figures) es (c' .trial .figures)
+
+  -- the comparison was begun anew with the cell a as its witness
+  pub record Started (c : Comparison A B M) (a : ℕ) (c' : Comparison A B M) : Type 0 where
+    pub same-world : world film drawing amount c' ≡ world film drawing amount c
+    pub in-order : InOrder c'
+    pub witness : c' .trial .figures .film ≡ a
+    pub partner : KeyedAt (world film drawing amount c) 0 a (c' .trial .figures .low) (c' .trial .figures .drawing)
+    pub begun : c' .progress .begun ≡ true
+    pub queued : c' .progress .queued ≡ 1
+    pub taken : c' .progress .taken ≡ 0
+    pub board : Suspect
+    pub waits : waiting (c' .suspects) ≡ board ∷ []
+    pub whole : board .square ≡ record { level = top; number = 0 }
+    pub right : Right (world film drawing amount c) board

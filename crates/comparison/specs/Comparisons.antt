@@ -14,7 +14,8 @@ use Rattle.comparison.specs.declared.call.Outcome.the-variants.{Refused}
 use Rattle.comparison.specs.declared.comparison.Comparison.{Comparison}
 use Rattle.comparison.specs.declared.fault.Fault.{Fault}
 use Rattle.comparison.specs.declared.suspect.Suspect.{Suspect}
-use Rattle.comparison.specs.Calls.{State, Does, Run, said}
+use Rattle.comparison.specs.Calls.{State, Does, Run, fresh, said}
+use Rattle.comparison.specs.Law.{Law, Reached, Kept-by}
 use Rattle.comparison.specs.Suspects.{ordered}
 use Rattle.comparison.specs.Trials.{over}
 use Rattle.comparison.specs.World.{World}
@@ -47,14 +48,16 @@ module _ {A B M : Type 0} where
     abbrev pub world : Comparison A B M → World
     world c = over film drawing amount (room (c .suspects)) (c .trial)
 
-    -- what a call does: it stays over the same world, keeps the order, says what the relation of calls says, and leaves that state
+    -- what a call does: it stays over the same world, keeps the order, says what the relation of calls says, and leaves that state; where calls on a fresh comparison led here, it keeps the law
     pub record Did (c : Comparison A B M) (call : Call) (o : Outcome) (c' : Comparison A B M) : Type 0 where
       pub same-world : world c' ≡ world c
       pub in-order : InOrder c'
       pub does : Does (world c) (state c) call (said o) (state c')
+      pub keeps : Reached (world c) (state c) → Kept-by (world c) (said o) (state c')
 
-    -- the same of a list of calls
+    -- the same of a list of calls; on a fresh comparison they keep the law
     pub record Ran (c : Comparison A B M) (calls : List Call) (os : List Outcome) (c' : Comparison A B M) : Type 0 where
       pub same-world : world c' ≡ world c
       pub in-order : InOrder c'
       pub run : Run (world c) (state c) calls (map said os) (state c')
+      pub law : state c ≡ fresh → Law (world c) calls (map said os) (state c')

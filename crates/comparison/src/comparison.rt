@@ -8,10 +8,9 @@ ghost use Rattle.board.specs.Squares.{OnBoard};
 ghost use Rattle.search.specs.WaitingLists.{waiting, room};
 ghost use Rattle.comparison.specs.declared.call.Call.the-variants.{Begin as begin-call, Step as step-call, Probe as probe-call, Look as look-call, Result as result-call};
 ghost use Rattle.comparison.specs.declared.call.Outcome.the-variants.{Begun as as-begun, Stepped as as-stepped, Probed as as-probed, Looked as as-looked, Answered as as-answered};
-ghost use Rattle.comparison.specs.Advances.{Offered, Opened, Handles};
-ghost use Rattle.comparison.specs.Calls.{fresh as fresh-state, said, high as high-of};
-ghost use Rattle.comparison.specs.Comparisons.{InOrder, Did, world, state, told, On};
-ghost use Rattle.comparison.specs.Law.{Reached, Kept-by};
+ghost use Rattle.comparison.specs.Advances.{Offered, Opened, Handles, Started};
+ghost use Rattle.comparison.specs.Calls.{fresh as fresh-state, high as high-of};
+ghost use Rattle.comparison.specs.Comparisons.{InOrder, Did, world, state, told};
 use crate::call::Sight;
 use crate::fault::Fault;
 use crate::record::Figures;
@@ -132,5 +131,131 @@ impl<'a, A: Store, B: Store, M: Measure> Comparison<'a, A, B, M> {
         } else {
             self.trial.try_square(s.square);
         }
+    }
+
+    // Starts anew: the first cell of A is the witness, and the board waits. A refusal leaves an earlier comparison as it was.
+    pub fn begin(&mut self) -> Result<(), Fault>
+        ensures by_the_rule { λ r. ⌜ (InOrder (now (self .entry)) → Did (A·Store .answers) (B·Store .answers) (M·Measure .amount) (now (self .entry)) begin-call (told (λ _. as-begun) r) (now (self .exit))) ⌝ }
+    {
+        if self.suspects.capacity() == 0 {
+            return Err(Fault::NoSuspectPlace);
+        }
+        if self.trial.neighbour_places() == 0 {
+            return Err(Fault::NoNeighbourPlace);
+        }
+        let Some(film) = self.trial.first_of_film() else {
+            return Err(Fault::NoFilmCell);
+        };
+        let Some(_some) = self.trial.first_of_drawing() else {
+            return Err(Fault::NoDrawingCell);
+        };
+        self.start(film.code());
+        Ok(())
+    }
+
+    // Makes the cell with this code the witness, and queues the board.
+    fn start(&mut self, film: u32)
+        ensures started { λ _. ⌜ (0 < room (now (self .entry) .suspects) → Started (A·Store .answers) (B·Store .answers) (M·Measure .amount) (now (self .entry)) film (now (self .exit))) ⌝ }
+    {
+        let cell = Square {
+            level: 0,
+            number: film,
+        };
+        let (low, drawing) = self.trial.key_of(cell);
+        let square = Square {
+            level: TOP,
+            number: 0,
+        };
+        let (key, partner) = self.trial.key_of(square);
+        self.trial.figures = Figures { low, film, drawing };
+        self.suspects.clear();
+        let board = Suspect {
+            key,
+            square,
+            partner,
+        };
+        let _ = self.suspects.add(board);
+        self.progress = Record {
+            begun: true,
+            queued: 1,
+            taken: 0,
+        };
+    }
+
+    // Takes the first suspect: it is dropped, settled, opened, or finished in depth.
+    pub fn step(&mut self) -> Result<(), Fault>
+        ensures by_the_rule { λ r. ⌜ (InOrder (now (self .entry)) → Did (A·Store .answers) (B·Store .answers) (M·Measure .amount) (now (self .entry)) step-call (told (λ _. as-stepped) r) (now (self .exit))) ⌝ }
+    {
+        if !self.progress.begun {
+            return Err(Fault::NeverBegun);
+        }
+        let Some(s) = self.suspects.take() else {
+            return Err(Fault::NothingWaits);
+        };
+        self.handle(s);
+        Ok(())
+    }
+
+    // Tries one cell of A.
+    pub fn probe(&mut self, cell: Cell) -> Result<(), Fault>
+        ensures by_the_rule { λ r. ⌜ (InOrder (now (self .entry)) → Did (A·Store .answers) (B·Store .answers) (M·Measure .amount) (now (self .entry)) (probe-call cell) (told (λ _. as-probed) r) (now (self .exit))) ⌝ }
+    {
+        if !self.trial.film_holds(cell) {
+            return Err(Fault::NotHeld);
+        }
+        if !self.progress.begun {
+            return Err(Fault::NeverBegun);
+        }
+        self.trial.try_cell(cell.code());
+        Ok(())
+    }
+
+    // The greater of low and the greatest key that waits.
+    fn high(&self) -> Amount
+        ensures greatest { λ r. ⌜ (InOrder (now (self .entry)) → r ≡ high-of (state (now (self .entry)))) ⌝ }
+    {
+        let low = self.trial.figures.low;
+        match self.suspects.first() {
+            Some(s) => low.max(s.key),
+            None => low,
+        }
+    }
+
+    // Shows low and high, the pair, both counts, and how many squares wait.
+    pub fn look(&self) -> Result<Sight, Fault>
+        ensures by_the_rule { λ r. ⌜ (InOrder (now (self .entry)) → Did (A·Store .answers) (B·Store .answers) (M·Measure .amount) (now (self .entry)) look-call (told as-looked r) (now (self .entry))) ⌝ }
+    {
+        if !self.progress.begun {
+            return Err(Fault::NeverBegun);
+        }
+        let figures = self.trial.figures;
+        Ok(Sight {
+            low: figures.low,
+            high: self.high(),
+            film: Cell::from_code(figures.film),
+            drawing: Cell::from_code(figures.drawing),
+            queued: self.progress.queued,
+            taken: self.progress.taken,
+            waiting: self.suspects.len(),
+        })
+    }
+
+    // The distance and the pair that shows it, where nothing waits.
+    pub fn result(&self) -> Result<Finding, Fault>
+        ensures by_the_rule { λ r. ⌜ (InOrder (now (self .entry)) → Did (A·Store .answers) (B·Store .answers) (M·Measure .amount) (now (self .entry)) result-call (told as-answered r) (now (self .entry))) ⌝ }
+    {
+        if !self.progress.begun {
+            return Err(Fault::NeverBegun);
+        }
+        let count = self.suspects.len();
+        if count > 0 {
+            return Err(Fault::Waits(count));
+        }
+        let figures = self.trial.figures;
+        Ok(Finding {
+            distance: figures.low,
+            film: Cell::from_code(figures.film),
+            drawing: Cell::from_code(figures.drawing),
+        })
     }
 }

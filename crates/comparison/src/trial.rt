@@ -5,6 +5,7 @@ ghost use Rattle.board.specs.Squares.{OnBoard, Inside};
 ghost use Rattle.board.specs.Findings.{code-of};
 ghost use Rattle.search.specs.Firsts.{NoneHeld, FirstHeld};
 ghost use Rattle.search.specs.Keys.{Keyed};
+ghost use Rattle.search.specs.WaitingLists.{room};
 ghost use Rattle.std.specs.Options.{Cases as BySome};
 ghost use Rattle.store.specs.Stores.{Holds};
 ghost use Rattle.std.specs.Orderings.{Decides};
@@ -50,6 +51,13 @@ pub fn is_empty(answer: Answer) -> bool
 }
 
 impl<'a, A: Store, B: Store, M: Measure> Trial<'a, A, B, M> {
+    // How many places the list of neighbours has.
+    pub fn neighbour_places(&self) -> usize
+        ensures all_places { λ r. ⌜ r ≡ room (now (self .entry) .neighbours) ⌝ }
+    {
+        self.neighbours.capacity()
+    }
+
     // Whether A calls a square empty.
     pub fn film_empty_at(&self, s: Square) -> bool
         ensures decides { λ r. ⌜ Decides r (A·Store .answers (now (self .entry) .film) (s .level) (s .number) ≡ empty-answer) ⌝ }

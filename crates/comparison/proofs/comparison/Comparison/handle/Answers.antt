@@ -25,7 +25,27 @@ returns-then-s-eq0 g c = record {
 }
 
 pub returns-then-free : need.returns-then-free
-returns-then-free g c = ?
+returns-then-free g c = record {
+  handled = λ on.
+    let v = c .args .self .now in
+    let some = c .if-s-eq0 .left in
+    let free = c .free .ensures .free-places in
+    let many = c .if-free .taken in
+    handles-opened (g .A·Store .answers) (g .B·Store .answers) (g .M·Measure .amount) v (c .args .s) _ refl refl (c .count-on-self .ensures .value)
+    (c .open .last .self) (omega arith)
+    (subst (Improves (v .trial .figures) (c .args .s .key)) (c .first-code .ensures .value) (c .if-not-improved-by .ensures tt .decides .0 refl))
+    (omega arith) (c .open .ensures .opened on (omega arith) (omega arith));
+}
 
 pub returns-else-free : need.returns-else-free
-returns-else-free g c = ?
+returns-else-free g c = record {
+  handled = λ on.
+    let v = c .args .self .now in
+    let some = c .if-s-eq0 .left in
+    let free = c .free .ensures .free-places in
+    let few = c .if-free .left in
+    handles-sunk (g .A·Store .answers) (g .B·Store .answers) (g .M·Measure .amount) v (c .args .s) _ refl refl (c .count-on-self .ensures .value)
+    (c .try-square .last .self) (c .try-square .ensures .stays on) (omega arith)
+    (subst (Improves (v .trial .figures) (c .args .s .key)) (c .first-code .ensures .value) (c .if-not-improved-by .ensures tt .decides .0 refl))
+    (omega arith) (c .try-square .ensures .tried on _);
+}

@@ -1,0 +1,9 @@
+use mathlib.Core.Path.{_≡_, refl, sym, ap, subst, _∙_}
+use native.Mathlib.Omega.{arith}
+use Rattle.search.specs.WaitingLists.{waiting}
+use Rattle.comparison.specs.Suspects.{suspects}
+use Rattle.comparison.proofs.Calling.{first-key}
+use Rattle.comparison.proofs.comparison.Comparison.high.Needs as need
+
+pub returns-in-Some : need.returns-in-Some
+returns-in-Some g c = ?

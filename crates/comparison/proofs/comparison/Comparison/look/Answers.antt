@@ -1,0 +1,13 @@
+use mathlib.Core.Path.{_≡_, refl, sym, ap, ap₂, subst, _∙_}
+use mathlib.Core.Bool.{true, false}
+use Rattle.board.specs.Morton.{code}
+use Rattle.board.proofs.Codes.{codes-are-exact}
+use Rattle.comparison.specs.Calls.Looks.{look-early}
+use Rattle.comparison.proofs.Calling.{did-nothing, did-look}
+use Rattle.comparison.proofs.comparison.Comparison.look.Needs as need
+
+pub returns-then-not-self : need.returns-then-not-self
+returns-then-not-self g c = record { by-the-rule = λ i. did-nothing (g .A·Store .answers) (g .A·Store .facts) (g .B·Store .answers) (g .B·Store .facts) (g .M·Measure .amount) (g .M·Measure .laws) (c .args .self .now) _ _ i (look-early (c .if-not-self .taken)) }
+
+pub returns : need.returns
+returns g c = ?

@@ -1,0 +1,17 @@
+use mathlib.Core.Path.{_≡_, refl, sym, ap, ap₂, subst, _∙_}
+use mathlib.Core.Bool.{true, false}
+use native.Mathlib.Omega.{arith}
+use Rattle.board.specs.Morton.{code}
+use Rattle.board.proofs.Codes.{codes-are-exact}
+use Rattle.comparison.specs.Calls.Results.{result-early}
+use Rattle.comparison.proofs.Calling.{did-nothing, did-result, did-wait}
+use Rattle.comparison.proofs.comparison.Comparison.result.Needs as need
+
+pub returns-then-not-self : need.returns-then-not-self
+returns-then-not-self g c = record { by-the-rule = λ i. did-nothing (g .A·Store .answers) (g .A·Store .facts) (g .B·Store .answers) (g .B·Store .facts) (g .M·Measure .amount) (g .M·Measure .laws) (c .args .self .now) _ _ i (result-early (c .if-not-self .taken)) }
+
+pub returns-then-count-gt0 : need.returns-then-count-gt0
+returns-then-count-gt0 g c = ?
+
+pub returns : need.returns
+returns g c = ?
