@@ -11,7 +11,7 @@ use Rattle.std.specs.Slices.{Shuffled}
 use Rattle.std.specs.shelf.Lists.{All}
 use Rattle.std.proofs.shelf.Sorted.{shuffled-refl, shuffled-sym, shuffled-trans, shuffled-cons, all-shuffled, length-shuffled}
 use Rattle.board.specs.declared.square.Square.{Square}
-use Rattle.search.specs.WaitingLists.{waiting, room, Added}
+use Rattle.search.specs.WaitingLists.{waiting, room, Added, Ready}
 use Rattle.search.specs.declared.waiting.WaitingList.{WaitingList}
 use Rattle.store.specs.declared.store.Answer.{Answer}
 use Rattle.store.specs.declared.store.Answer.the-variants.{Empty}
@@ -20,9 +20,9 @@ use Rattle.comparison.specs.declared.record.Figures.{Figures}
 use Rattle.comparison.specs.declared.record.Record.{Record}
 use Rattle.comparison.specs.declared.suspect.Suspect.{Suspect}
 use Rattle.comparison.specs.declared.trial.Trial.{Trial}
-use Rattle.comparison.specs.Advances.{Offer, Queues, Offered, Opened, Handles}
+use Rattle.comparison.specs.Advances.{Offer, Queues, Offered, Opened, Handles, Started}
 use Rattle.comparison.specs.Advances.Offer.{put as offer-put, pass-empty as offer-empty, pass as offer-pass}
-use Rattle.board.specs.Squares.{Inside}
+use Rattle.board.specs.Squares.{Inside, OnBoard}
 use Rattle.comparison.specs.Calls.{Improves, Right, Picked, Handled, Tried, counted, part}
 use Rattle.comparison.specs.Calls.Picked.{none, pick, pass-empty, pass}
 use Rattle.comparison.specs.Calls.Handled.{dropped, settled, opened, sunk}
@@ -30,6 +30,12 @@ use Rattle.comparison.specs.Comparisons.{InOrder, world, On}
 use Rattle.comparison.specs.Suspects.{ordered, first-code}
 use Rattle.comparison.specs.Trials.{over, Stays}
 use Rattle.comparison.specs.World.{World, KeyedAt}
+
+-- one thing, shuffled
+shuffled-one : {X : Type 0} (x : X) (ys : List X) → Shuffled (x ∷ []) ys → ys ≡ x ∷ []
+shuffled-one x [] s = absurd (omega (arith, length-shuffled (x ∷ []) [] s))
+shuffled-one x (y ∷ []) s = let h = all-shuffled (λ z. z ≡ x) (x ∷ []) (y ∷ []) s (refl, tt) in ap (λ z. z ∷ []) (h .0)
+shuffled-one x (y ∷ z ∷ zs) s = absurd (omega (arith, length-shuffled (x ∷ []) (y ∷ z ∷ zs) s))
 
 counted-none : (r : Record) → r .queued ≡ counted (r .queued) 0
 counted-none r = omega (arith, r .stops .0)
@@ -148,3 +154,33 @@ module _ {A B M : Type 0} (film : A → ℕ → ℕ → Answer) (drawing : B →
       taken = o .taken ∙ t;
       handled = subst (Handled (world film drawing amount c) s (room (c .suspects) - length (waiting (c .suspects))) (c .trial .figures) (o .es)) (sym (o .figures))
         (opened (s .square .level - 1) (omega arith) i few (o .picked)) }
+
+  -- the board is the only square that waits
+  pub started : (c : Comparison A B M) (u t : Trial A B M) (v w : WaitingList Suspect) (b : Bool) (a k p : ℕ) (e : Suspect) (r : Record)
+      → Stays film drawing amount (c .trial) u → Stays film drawing amount u t
+      → KeyedAt (world film drawing amount c) 0 a k p → Right (over film drawing amount (room (c .suspects)) u) e → e .square ≡ record { level = 16; number = 0 }
+      → waiting v ≡ [] → Ready ordered v → room v ≡ room (c .suspects) → Added ordered v e b w → room w ≡ room v → 0 < room (c .suspects)
+      → r .begun ≡ true → r .queued ≡ 1 → r .taken ≡ 0
+      → Started film drawing amount c a (record {
+          trial = record { film = t .film; drawing = t .drawing; measure = t .measure; neighbours = t .neighbours; square = t .square; figures = record { low = k; film = a; drawing = p } };
+          suspects = w;
+          progress = r })
+  started c u t v w b a k p e r s s' key right whole empty heap places add places' some x y z = record {
+    same-world = ap (λ n. over film drawing amount n t) (places' ∙ places) ∙ over-places (room (c .suspects)) u t s' ∙ over-places (room (c .suspects)) (c .trial) u s;
+    in-order = λ i. record {
+      heap = go b add .0;
+      board = subst (All On) (sym (go b add .1)) (subst (λ q. OnBoard (q .level) (q .number)) (sym whole) (omega arith, omega arith), tt);
+      idle = s' .idle (s .idle (i .idle)) };
+    witness = refl;
+    partner = key;
+    begun = x;
+    queued = y;
+    taken = z;
+    board = e;
+    waits = go b add .1;
+    whole = whole;
+    right = subst (λ q. Right q e) (over-places (room (c .suspects)) (c .trial) u s) right }
+    where
+      go : (b : Bool) → Added ordered v e b w → Ready ordered w × (waiting w ≡ e ∷ [])
+      go true h = ((λ o. h .2 o (heap o)), shuffled-one e (waiting w) (subst (λ xs. Shuffled (e ∷ xs) (waiting w)) empty (h .1)))
+      go false h = absurd (omega (arith, h .0, ap length empty))

@@ -58,12 +58,6 @@ first-key xs x h f =
     go y i (inl lt) = absurd (false≢true (sym i ∙ ap isLt (suspects-are-ordered .by-key y x lt)))
     go y i (inr le) = le
 
--- one thing, shuffled
-pub shuffled-one : {X : Type 0} (x : X) (ys : List X) → Shuffled (x ∷ []) ys → ys ≡ x ∷ []
-shuffled-one x [] s = absurd (omega (arith, length-shuffled (x ∷ []) [] s))
-shuffled-one x (y ∷ []) s = let h = all-shuffled (λ z. z ≡ x) (x ∷ []) (y ∷ []) s (refl, tt) in ap (λ z. z ∷ []) (h .0)
-shuffled-one x (y ∷ z ∷ zs) s = absurd (omega (arith, length-shuffled (x ∷ []) (y ∷ z ∷ zs) s))
-
 module _ {A B M : Type 0} (film : A → ℕ → ℕ → Answer) (ff : (a : A) → StoreFacts (film a)) (drawing : B → ℕ → ℕ → Answer) (df : (b : B) → StoreFacts (drawing b)) (amount : M → ℕ → ℕ → ℕ) (mf : (m : M) → MeasureLaws (amount m)) where
   pub facts : (c : Comparison A B M) → Facts (world film drawing amount c)
   facts c = record { film = ff (c .trial .film); drawing = df (c .trial .drawing); measure = mf (c .trial .measure) }
@@ -75,9 +69,9 @@ module _ {A B M : Type 0} (film : A → ℕ → ℕ → Answer) (ff : (a : A) �
   pub did-nothing : (c : Comparison A B M) (call : Call) (o : Outcome) → InOrder c → Does (world film drawing amount c) (state c) call (said o) (state c) → Did film drawing amount c call o c
   did-nothing c call o i d = did c c call o refl i d
 
-  pub did-begin : (c c' : Comparison A B M) (a e : ℕ) → 0 < room (c .suspects) → 0 < room (c .trial .neighbours) → FirstHeld (film (c .trial .film)) a → Holds (drawing (c .trial .drawing)) e → Started film drawing amount c a c' → Did film drawing amount c Begin Begun c'
-  did-begin c c' a e h h' f o s =
-    did c c' Begin Begun (s .same-world) (s .in-order) (begins e h h' o (record {
+  pub did-begin : (c c' : Comparison A B M) (a e : ℕ) → InOrder c → 0 < room (c .suspects) → 0 < room (c .trial .neighbours) → FirstHeld (film (c .trial .film)) a → Holds (drawing (c .trial .drawing)) e → Started film drawing amount c a c' → Did film drawing amount c Begin Begun c'
+  did-begin c c' a e i h h' f o s =
+    did c c' Begin Begun (s .same-world) (s .in-order i) (begins e h h' o (record {
       first = subst (FirstHeld (film (c .trial .film))) (sym (s .witness)) f;
       partner = subst (λ x. KeyedAt (world film drawing amount c) 0 x (c' .trial .figures .low) (c' .trial .figures .drawing)) (sym (s .witness)) (s .partner);
       begun = s .begun;

@@ -55,6 +55,12 @@ pub greatest-below : (ss : List Suspect) (m : ℕ) → All (λ s. s .key ≤ m) 
 greatest-below [] m h = omega arith
 greatest-below (s ∷ ss) m h = let q = greatest-below ss m (h .1) in omega (arith, h .0)
 
+module _ (w : World) where
+  -- one call more
+  pub extended : {st st' st'' : State} (c : Call) (o : Said) {cs : List Call} {os : List Said} → Run w st cs os st' → Does w st' c o st'' → Run w st (cs ++ c ∷ []) (os ++ o ∷ []) st''
+  extended c o stop d = next d stop
+  extended c o (next e r) d = next e (extended c o r d)
+
 module _ (w : World) (fs : Facts w) where
   -- as many squares as entries, at least
   sizes-pos : (ss : List Suspect) → All (Entry w fs) ss → length ss ≤ sumBy (size w) ss
@@ -296,16 +302,11 @@ module _ (w : World) (fs : Facts w) where
     says = run-says run never;
     lawful = lawful-from st (run-keeps run never) }
 
-  -- one call more
-  pub extended : {st st' st'' : State} (c : Call) (o : Said) {cs : List Call} {os : List Said} → Run w st cs os st' → Does w st' c o st'' → Run w st (cs ++ c ∷ []) (os ++ o ∷ []) st''
-  extended c o stop d = next d stop
-  extended c o (next e r) d = next e (extended c o r d)
-
   pub one-more : (st st' : State) (c : Call) (o : Said) → Does w st c o st' → Reached w st → Kept-by w o st'
   one-more st st' c o d r =
     let e = effect st st' c o d (run-keeps (r .run) never) in
     record {
-      reached = record { calls = r .calls ++ c ∷ []; outcomes = r .outcomes ++ o ∷ []; run = extended c o (r .run) d };
+      reached = record { calls = r .calls ++ c ∷ []; outcomes = r .outcomes ++ o ∷ []; run = extended w c o (r .run) d };
       says = e .says;
       lawful = lawful-from st' (e .keeps) }
 

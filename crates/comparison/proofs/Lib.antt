@@ -6,3 +6,4 @@ pub mod Keeping
 pub mod Diving
 pub mod Advancing
 pub mod Calling
+pub mod Replaying

@@ -58,7 +58,7 @@ module _ {A B M : Type 0} (film : A → ℕ → ℕ → Answer) (drawing : B →
   -- the comparison was begun anew with the cell a as its witness
   pub record Started (c : Comparison A B M) (a : ℕ) (c' : Comparison A B M) : Type 0 where
     pub same-world : world film drawing amount c' ≡ world film drawing amount c
-    pub in-order : InOrder c'
+    pub in-order : InOrder c → InOrder c'
     pub witness : c' .trial .figures .film ≡ a
     pub partner : KeyedAt (world film drawing amount c) 0 a (c' .trial .figures .low) (c' .trial .figures .drawing)
     pub begun : c' .progress .begun ≡ true

@@ -3,5 +3,6 @@ pub mod call;
 pub mod comparison;
 pub mod fault;
 pub mod record;
+pub mod run;
 pub mod suspect;
 mod trial;

@@ -1,0 +1,27 @@
+use mathlib.Core.Path.{_≡_, refl, sym, ap, subst, _∙_}
+use mathlib.Core.List.{[]}
+use native.Mathlib.Omega.{arith}
+use lib.ListN.{take}
+use Rattle.std.specs.Of.Vec.{vec-items}
+use Rattle.std.proofs.shelf.Lists.{take-all}
+use Rattle.comparison.proofs.Replaying.{Going, going-none, going-more, ran}
+use Rattle.comparison.proofs.comparison.Comparison.replay.Needs as need
+
+pub loop-call-holds : need.loop-call-holds
+loop-call-holds g c = λ i.
+    let u = c .args .self .now in
+    subst (λ os. Going (g .A·Store .answers) (g .B·Store .answers) (g .M·Measure .amount) u [] os u) (sym (c .new-outcomes .ensures .items)) (going-none (g .A·Store .answers) (g .B·Store .answers) (g .M·Measure .amount) u i)
+
+pub loop-call-again : need.loop-call-again
+loop-call-again g c = λ i.
+    let h = c .call-outcome .ensures .by-the-rule (c .loop-call .inv i .in-order) in
+    let e = c .in-Continue-push .ensures tt .items in
+    ?
+
+pub returns : need.returns
+returns g c = record {
+  by-the-rules = λ i.
+    let u = c .args .self .now in
+    ran (g .A·Store .answers) (g .B·Store .answers) (g .M·Measure .amount) (g .A·Store .facts) (g .B·Store .facts) (g .M·Measure .laws) u (c .loop-call .self) (c .args .calls .now) (vec-items (c .loop-call .outcomes))
+    (subst (λ cs. Going (g .A·Store .answers) (g .B·Store .answers) (g .M·Measure .amount) u cs (vec-items (c .loop-call .outcomes)) (c .loop-call .self)) (take-all (c .loop-call .call-index) (c .args .calls .now) (c .loop-call-test .left)) (c .loop-call .inv i));
+}
