@@ -8,9 +8,11 @@ use native.Mathlib.Numerals.{add-one}
 use native.Mathlib.Omega.{arith}
 use lib.ListN.{length, length-append}
 use Rattle.std.specs.Slices.{Shuffled}
-use Rattle.std.specs.shelf.Lists.{All}
-use Rattle.std.proofs.shelf.Sorted.{shuffled-refl, shuffled-sym, shuffled-trans, shuffled-cons, all-shuffled, length-shuffled}
+use Rattle.std.specs.shelf.Lists.{All, sumBy}
+use Rattle.std.proofs.shelf.Sorted.{shuffled-refl, shuffled-sym, shuffled-trans, shuffled-cons, all-shuffled, length-shuffled, sumBy-shuffled}
+use Rattle.std.proofs.shelf.Sums.{sumBy-cons}
 use Rattle.board.specs.declared.square.Square.{Square}
+use Rattle.search.specs.Offers.{weight}
 use Rattle.search.specs.WaitingLists.{waiting, room, Added, Ready}
 use Rattle.search.specs.declared.waiting.WaitingList.{WaitingList}
 use Rattle.store.specs.declared.store.Answer.{Answer}
@@ -36,6 +38,10 @@ shuffled-one : {X : Type 0} (x : X) (ys : List X) → Shuffled (x ∷ []) ys →
 shuffled-one x [] s = absurd (omega (arith, length-shuffled (x ∷ []) [] s))
 shuffled-one x (y ∷ []) s = let h = all-shuffled (λ z. z ≡ x) (x ∷ []) (y ∷ []) s (refl, tt) in ap (λ z. z ∷ []) (h .0)
 shuffled-one x (y ∷ z ∷ zs) s = absurd (omega (arith, length-shuffled (x ∷ []) (y ∷ z ∷ zs) s))
+
+-- what one more entry weighs
+pub added-weight : (v : WaitingList Suspect) (e : Suspect) (w : WaitingList Suspect) → Added ordered v e true w → sumBy (λ s. weight (s .square)) (waiting w) ≡ weight (e .square) + sumBy (λ s. weight (s .square)) (waiting v)
+added-weight v e w a = sumBy-shuffled (λ s. weight (s .square)) (e ∷ waiting v) (waiting w) (a .1) ∙ sumBy-cons (λ s. weight (s .square)) e (waiting v)
 
 counted-none : (r : Record) → r .queued ≡ counted (r .queued) 0
 counted-none r = omega (arith, r .stops .0)

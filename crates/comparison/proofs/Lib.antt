@@ -7,3 +7,5 @@ pub mod Diving
 pub mod Advancing
 pub mod Calling
 pub mod Replaying
+pub mod Finishing
+pub mod Choosing

@@ -4,18 +4,24 @@ use mathlib.Core.List.{List, [], map}
 use Prim.Native.Nat.{ℕ}
 use Rattle.std.specs.declared.result.Result.{Result}
 use Rattle.std.specs.declared.result.Result.the-variants.{Ok, Err}
-use Rattle.std.specs.shelf.Lists.{All}
+use Rattle.std.specs.shelf.Lists.{All, sumBy}
+use lib.ListN.{replicate}
+use mathlib.Core.Bool.{false}
 use Rattle.board.specs.Squares.{OnBoard}
+use Rattle.search.specs.Offers.{weight}
 use Rattle.search.specs.WaitingLists.{waiting, room, Ready}
 use Rattle.store.specs.declared.store.Answer.{Answer}
 use Rattle.comparison.specs.declared.call.Call.{Call}
+use Rattle.comparison.specs.declared.call.Call.the-variants.{Step}
 use Rattle.comparison.specs.declared.call.Outcome.{Outcome}
 use Rattle.comparison.specs.declared.call.Outcome.the-variants.{Refused}
 use Rattle.comparison.specs.declared.comparison.Comparison.{Comparison}
 use Rattle.comparison.specs.declared.fault.Fault.{Fault}
 use Rattle.comparison.specs.declared.suspect.Suspect.{Suspect}
-use Rattle.comparison.specs.Calls.{State, Does, Run, fresh, said}
-use Rattle.comparison.specs.Law.{Law, Reached, Kept-by}
+use Rattle.comparison.specs.Calls.{State, Does, Run, counted, fresh, said}
+use Rattle.comparison.specs.Calls.Said.{stepped}
+use Rattle.comparison.specs.Faults.{fault-numbered}
+use Rattle.comparison.specs.Law.{Law, Lawful, Reached, Kept-by}
 use Rattle.comparison.specs.Suspects.{ordered}
 use Rattle.comparison.specs.Trials.{over}
 use Rattle.comparison.specs.World.{World}
@@ -44,6 +50,10 @@ module _ {A B M : Type 0} where
     pub board : All On (waiting (c .suspects))
     pub idle : waiting (c .trial .neighbours) ≡ []
 
+  -- falls with every step
+  abbrev pub weighed : Comparison A B M → ℕ
+  weighed c = sumBy (λ s. weight (s .square)) (waiting (c .suspects))
+
   module _ (film : A → ℕ → ℕ → Answer) (drawing : B → ℕ → ℕ → Answer) (amount : M → ℕ → ℕ → ℕ) where
     abbrev pub world : Comparison A B M → World
     world c = over film drawing amount (room (c .suspects)) (c .trial)
@@ -61,3 +71,18 @@ module _ {A B M : Type 0} where
       pub in-order : InOrder c'
       pub run : Run (world c) (state c) calls (map said os) (state c')
       pub law : state c ≡ fresh → Law (world c) calls (map said os) (state c')
+
+    -- so many steps were made, until nothing waited; where calls on a fresh comparison led here, the state is lawful
+    pub record Finished (c : Comparison A B M) (n : ℕ) (c' : Comparison A B M) : Type 0 where
+      pub same-world : world c' ≡ world c
+      pub in-order : InOrder c'
+      pub steps : ℕ
+      pub many : n ≡ counted 0 steps
+      pub run : Run (world c) (state c) (replicate steps Step) (replicate steps stepped) (state c')
+      pub nothing-waits : waiting (c' .suspects) ≡ []
+      pub keeps : Reached (world c) (state c) → Reached (world c) (state c') × Lawful (world c) (state c')
+
+    -- the same, or a refusal, which changes nothing, where the comparison was never begun
+    abbrev pub Ended : Comparison A B M → Result ℕ Fault → Comparison A B M → Type 0
+    Ended c (Ok n) c' = Finished c n c'
+    Ended c (Err f) c' = (c .progress .begun ≡ false) × (fault-numbered f ≡ (16, 0)) × (c' ≡ c)

@@ -1,16 +1,17 @@
 // The comparison: begin, step, probe, look and result.
 ghost use mathlib.Core.Logic.{_⊎_};
 ghost use mathlib.Core.Path.{_≡_};
-ghost use Prim.Native.Nat.{ℕ, _+_, _-_, _<_, _≤_};
+ghost use Prim.Native.Nat.{ℕ, _+_, _-_, _*_, _^_, _<_, _≤_};
 ghost use lib.ListN.{length};
 ghost use Rattle.board.specs.Limits.{parts};
 ghost use Rattle.board.specs.Squares.{OnBoard};
+ghost use Rattle.search.specs.Offers.{weight};
 ghost use Rattle.search.specs.WaitingLists.{waiting, room};
 ghost use Rattle.comparison.specs.declared.call.Call.the-variants.{Begin as begin-call, Step as step-call, Probe as probe-call, Look as look-call, Result as result-call};
 ghost use Rattle.comparison.specs.declared.call.Outcome.the-variants.{Begun as as-begun, Stepped as as-stepped, Probed as as-probed, Looked as as-looked, Answered as as-answered};
 ghost use Rattle.comparison.specs.Advances.{Offered, Opened, Handles, Started};
 ghost use Rattle.comparison.specs.Calls.{fresh as fresh-state, high as high-of};
-ghost use Rattle.comparison.specs.Comparisons.{InOrder, Did, world, state, told};
+ghost use Rattle.comparison.specs.Comparisons.{InOrder, Did, Ended, world, state, told, weighed};
 use crate::call::Sight;
 use crate::fault::Fault;
 use crate::record::Figures;
@@ -81,6 +82,7 @@ impl<'a, A: Store, B: Store, M: Measure> Comparison<'a, A, B, M> {
     // Queues a square where A does not call it empty and it improves.
     fn offer(&mut self, q: Square)
         ensures offered { λ _. ⌜ (OnBoard (q .level) (q .number) → length (waiting (now (self .entry) .suspects)) < room (now (self .entry) .suspects) → Offered (A·Store .answers) (B·Store .answers) (M·Measure .amount) (now (self .entry)) q (now (self .exit))) ⌝ }
+        ensures lighter { λ _. ⌜ weighed (now (self .exit)) ≤ weighed (now (self .entry)) + weight q ⌝ }
     {
         if self.trial.film_empty_at(q) {
             return;
@@ -102,6 +104,7 @@ impl<'a, A: Store, B: Store, M: Measure> Comparison<'a, A, B, M> {
     // Offers the quarters of a square, in order.
     fn open(&mut self, s: Square)
         ensures opened { λ _. ⌜ (OnBoard (s .level) (s .number) → 1 ≤ s .level → parts + length (waiting (now (self .entry) .suspects)) ≤ room (now (self .entry) .suspects) → Opened (A·Store .answers) (B·Store .answers) (M·Measure .amount) (now (self .entry)) (s .level - 1) (s .number) parts (now (self .exit))) ⌝ }
+        ensures lighter { λ _. ⌜ weighed (now (self .exit)) ≤ weighed (now (self .entry)) + parts * (parts + 1) ^ (s .level - 1) ⌝ }
     {
         for k in 0..PARTS {
             if let Some(quarter) = s.quarter(k) {
@@ -113,6 +116,7 @@ impl<'a, A: Store, B: Store, M: Measure> Comparison<'a, A, B, M> {
     // Handles the suspect that a step took: drops it, settles it, opens it, or finishes it in depth.
     fn handle(&mut self, s: Suspect)
         ensures handled { λ _. ⌜ (OnBoard (s .square .level) (s .square .number) → Handles (A·Store .answers) (B·Store .answers) (M·Measure .amount) (now (self .entry)) s (now (self .exit))) ⌝ }
+        ensures lighter { λ _. ⌜ weighed (now (self .exit)) < weighed (now (self .entry)) + weight (s .square) ⌝ }
     {
         self.progress.taken = count_on(self.progress.taken);
         if !self.trial.figures.improved_by(s.key, first_code(s.square)) {
@@ -257,5 +261,20 @@ impl<'a, A: Store, B: Store, M: Measure> Comparison<'a, A, B, M> {
             film: Cell::from_code(figures.film),
             drawing: Cell::from_code(figures.drawing),
         })
+    }
+
+    // Steps until nothing waits, and answers how many steps it made; the count stops where the counts of the record do.
+    pub fn finish(&mut self) -> Result<u64, Fault>
+        ensures steps_to_the_end { λ r. ⌜ (InOrder (now (self .entry)) → Ended (A·Store .answers) (B·Store .answers) (M·Measure .amount) (now (self .entry)) r (now (self .exit))) ⌝ }
+    {
+        if !self.progress.begun {
+            return Err(Fault::NeverBegun);
+        }
+        let mut steps = 0;
+        while let Some(s) = self.suspects.take() {
+            self.handle(s);
+            steps = count_on(steps);
+        }
+        Ok(steps)
     }
 }

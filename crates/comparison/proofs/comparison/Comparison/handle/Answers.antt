@@ -3,12 +3,14 @@ use native.Mathlib.Omega.{arith}
 use Rattle.std.proofs.shelf.Tests.{false≢true}
 use Rattle.comparison.specs.Calls.{Improves}
 use Rattle.comparison.specs.Suspects.{first-code}
+use Rattle.search.proofs.Fronts.{weight-pos, fifth}
 use Rattle.comparison.proofs.Advancing.{handles-dropped, handles-settled, handles-opened, handles-sunk}
 use Rattle.comparison.proofs.Diving.{stays-same}
 use Rattle.comparison.proofs.comparison.Comparison.handle.Needs as need
 
 pub returns-then-not-improved-by : need.returns-then-not-improved-by
 returns-then-not-improved-by g c = record {
+  lighter = omega (arith, weight-pos (c .args .s .square));
   handled = λ on.
     let v = c .args .self .now in
     handles-dropped (g .A·Store .answers) (g .B·Store .answers) (g .M·Measure .amount) v (c .args .s) _ refl refl (c .count-on-self .ensures .value)
@@ -17,6 +19,7 @@ returns-then-not-improved-by g c = record {
 
 pub returns-then-s-eq0 : need.returns-then-s-eq0
 returns-then-s-eq0 g c = record {
+  lighter = omega (arith, weight-pos (c .args .s .square));
   handled = λ on.
     let v = c .args .self .now in
     handles-settled (g .A·Store .answers) (g .B·Store .answers) (g .M·Measure .amount) v (c .args .s) _ refl refl (c .count-on-self .ensures .value)
@@ -26,6 +29,7 @@ returns-then-s-eq0 g c = record {
 
 pub returns-then-free : need.returns-then-free
 returns-then-free g c = record {
+  lighter = omega (arith, weight-pos (c .args .s .square), fifth (c .args .s .square) (let z = c .if-s-eq0 .left in omega arith), c .open .ensures .lighter);
   handled = λ on.
     let v = c .args .self .now in
     let some = c .if-s-eq0 .left in
@@ -39,6 +43,7 @@ returns-then-free g c = record {
 
 pub returns-else-free : need.returns-else-free
 returns-else-free g c = record {
+  lighter = omega (arith, weight-pos (c .args .s .square));
   handled = λ on.
     let v = c .args .self .now in
     let some = c .if-s-eq0 .left in

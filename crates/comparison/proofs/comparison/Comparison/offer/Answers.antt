@@ -7,12 +7,13 @@ use Rattle.comparison.specs.Advances.Offer.{put, pass-empty, pass}
 use Rattle.comparison.specs.Calls.{Improves}
 use Rattle.comparison.specs.Suspects.{first-code}
 use Rattle.comparison.specs.declared.suspect.Suspect.{Suspect}
-use Rattle.comparison.proofs.Advancing.{queues-none, queues-one}
+use Rattle.comparison.proofs.Advancing.{queues-none, queues-one, added-weight}
 use Rattle.comparison.proofs.Diving.{stays-same}
 use Rattle.comparison.proofs.comparison.Comparison.offer.Needs as need
 
 pub returns-then-film-empty-at : need.returns-then-film-empty-at
 returns-then-film-empty-at g c = record {
+  lighter = omega arith;
   offered = λ on free.
     let v = c .args .self .now in
     record {
@@ -26,6 +27,7 @@ returns-then-film-empty-at g c = record {
 
 pub returns-then-not-improved-by : need.returns-then-not-improved-by
 returns-then-not-improved-by g c = record {
+  lighter = omega arith;
   offered = λ on free.
     let v = c .args .self .now in
     let t = c .key-of-key .last .self in
@@ -42,6 +44,7 @@ returns-then-not-improved-by g c = record {
 
 pub returns-then-add : need.returns-then-add
 returns-then-add g c = record {
+  lighter = omega (arith, added-weight (c .args .self .now .suspects) (record { key = c .key-of-key .result .0; square = c .args .q; partner = c .key-of-key .result .1 }) (c .add .last .self) (c .if-add .ensures tt .gains-or-full));
   offered = λ on free.
     let v = c .args .self .now in
     let t = c .key-of-key .last .self in
