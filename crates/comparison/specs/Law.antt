@@ -86,4 +86,4 @@ Runs-keep-the-law = (w : World) → Facts w → (cs : List Call) (os : List Said
 
 -- the relation leaves no choice
 abbrev pub Runs-are-one : Type 0
-Runs-are-one = (w : World) (cs : List Call) (os os' : List Said) (st st' : State) → Run w fresh cs os st → Run w fresh cs os' st' → (os ≡ os') × Same st st'
+Runs-are-one = (w : World) → Facts w → (cs : List Call) (os os' : List Said) (st st' : State) → Run w fresh cs os st → Run w fresh cs os' st' → (os ≡ os') × Same st st'

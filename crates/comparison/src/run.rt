@@ -5,6 +5,7 @@ ghost use lib.ListN.{length};
 ghost use Rattle.std.specs.Of.Vec.{vec-items};
 ghost use Rattle.std.specs.Vec.{made};
 ghost use Rattle.comparison.specs.Comparisons.{InOrder, Did, Ran, told};
+ghost use Rattle.comparison.specs.Law.{Runs-keep-the-law, Runs-are-one};
 use crate::call::Call;
 use crate::call::Outcome;
 use crate::comparison::Comparison;
@@ -22,6 +23,14 @@ fn outcome_of(r: Result<(), Fault>, done: Outcome) -> Outcome
         Ok(()) => done,
         Err(fault) => Outcome::Refused(fault),
     }
+}
+
+// What every list of calls keeps, and that one list of calls has one outcome.
+pub fn runs_are_lawful() -> u8
+    ensures law { λ _. ⌜ Runs-keep-the-law ⌝ }
+    ensures no_choice { λ _. ⌜ Runs-are-one ⌝ }
+{
+    0
 }
 
 impl<'a, A: Store, B: Store, M: Measure> Comparison<'a, A, B, M> {
