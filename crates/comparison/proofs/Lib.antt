@@ -9,3 +9,4 @@ pub mod Calling
 pub mod Replaying
 pub mod Finishing
 pub mod Choosing
+pub mod Exemplary

@@ -4,5 +4,6 @@ pub mod Faults
 pub mod Calls
 pub mod Law
 pub mod Trials
+pub mod Examples
 pub mod Comparisons
 pub mod Advances

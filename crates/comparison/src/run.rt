@@ -5,6 +5,7 @@ ghost use lib.ListN.{length};
 ghost use Rattle.std.specs.Of.Vec.{vec-items};
 ghost use Rattle.std.specs.Vec.{made};
 ghost use Rattle.comparison.specs.Comparisons.{InOrder, Did, Ran, told};
+ghost use Rattle.comparison.specs.Examples.{Runs-exist};
 ghost use Rattle.comparison.specs.Law.{Runs-keep-the-law, Runs-are-one};
 use crate::call::Call;
 use crate::call::Outcome;
@@ -29,6 +30,7 @@ fn outcome_of(r: Result<(), Fault>, done: Outcome) -> Outcome
 pub fn runs_are_lawful() -> u8
     ensures law { λ _. ⌜ Runs-keep-the-law ⌝ }
     ensures no_choice { λ _. ⌜ Runs-are-one ⌝ }
+    ensures runs_exist { λ _. ⌜ Runs-exist ⌝ }
 {
     0
 }
