@@ -52,7 +52,7 @@ counted-more n j k m e = omega arith
 module _ {A B M : Type 0} (film : A → ℕ → ℕ → Answer) (drawing : B → ℕ → ℕ → Answer) (amount : M → ℕ → ℕ → ℕ) where
   pub over-places : (n : ℕ) (u v : Trial A B M) → Stays film drawing amount u v → over film drawing amount n v ≡ over film drawing amount n u
   over-places n u v s =
-    ap (λ (w : World). let x : World = record { film = w .film; drawing = w .drawing; measure = w .measure; suspects = n; neighbours = w .neighbours } in x) (s .world)
+      ap (λ (w : World). let x : World = record { film = w .film; drawing = w .drawing; measure = w .measure; suspects = n; neighbours = w .neighbours } in x) (s .world)
 
   -- nothing was queued
   pub queues-none : (c : Comparison A B M) (t : Trial A B M) (r : Record) → Stays film drawing amount (c .trial) t → r .begun ≡ c .progress .begun → r .queued ≡ c .progress .queued
@@ -62,7 +62,8 @@ module _ {A B M : Type 0} (film : A → ℕ → ℕ → Answer) (drawing : B →
     in-order = λ i. record { heap = i .heap; board = i .board; idle = s .idle (i .idle) };
     waits = shuffled-refl (waiting (c .suspects));
     begun = b;
-    queued = q ∙ counted-none (c .progress) }
+    queued = q ∙ counted-none (c .progress);
+  }
 
   -- one square was queued
   pub queues-one : (c : Comparison A B M) (t : Trial A B M) (e : Suspect) (w : WaitingList Suspect) (r : Record)
@@ -74,10 +75,12 @@ module _ {A B M : Type 0} (film : A → ℕ → ℕ → Answer) (drawing : B →
     in-order = λ i. record {
       heap = λ o. a .2 o (i .heap o);
       board = all-shuffled On (e ∷ waiting (c .suspects)) (waiting w) (a .1) (on, i .board);
-      idle = s .idle (i .idle) };
+      idle = s .idle (i .idle);
+    };
     waits = shuffled-sym (e ∷ waiting (c .suspects)) (waiting w) (a .1);
     begun = b;
-    queued = q }
+    queued = q;
+  }
 
   -- one after the other
   queues-onward : (c d e : Comparison A B M) (xs ys : List Suspect) → Queues film drawing amount c xs d → Queues film drawing amount d ys e → Queues film drawing amount c (ys ++ xs) e
@@ -85,11 +88,12 @@ module _ {A B M : Type 0} (film : A → ℕ → ℕ → Answer) (drawing : B →
     same-world = b .same-world ∙ a .same-world;
     in-order = λ i. b .in-order (a .in-order i);
     waits = subst (Shuffled (waiting (e .suspects))) (sym (append-assoc ys xs (waiting (c .suspects))))
-      (shuffled-trans (waiting (e .suspects)) (ys ++ waiting (d .suspects)) (ys ++ (xs ++ waiting (c .suspects))) (b .waits) (behind ys (a .waits)));
+        (shuffled-trans (waiting (e .suspects)) (ys ++ waiting (d .suspects)) (ys ++ (xs ++ waiting (c .suspects))) (b .waits) (behind ys (a .waits)));
     begun = b .begun ∙ a .begun;
     queued =
-      counted-more (c .progress .queued) (length xs) (length ys) (e .progress .queued) (b .queued ∙ ap (λ n. counted n (length ys)) (a .queued))
-      ∙ ap (counted (c .progress .queued)) (sym (length-append ys xs)) }
+        counted-more (c .progress .queued) (length xs) (length ys) (e .progress .queued) (b .queued ∙ ap (λ n. counted n (length ys)) (a .queued))
+        ∙ ap (counted (c .progress .queued)) (sym (length-append ys xs));
+  }
     where
       behind : (ys : List Suspect) → {us vs : List Suspect} → Shuffled us vs → Shuffled (ys ++ us) (ys ++ vs)
       behind [] s = s
@@ -101,7 +105,8 @@ module _ {A B M : Type 0} (film : A → ℕ → ℕ → Answer) (drawing : B →
     queues = queues-none c (c .trial) (c .progress) (record { world = refl; idle = λ e. e }) refl refl;
     figures = refl;
     taken = refl;
-    picked = none }
+    picked = none;
+  }
 
   -- one more quarter was offered
   pub opened-more : (c d e : Comparison A B M) (l n k : ℕ) (q : Square) → q ≡ part l n k → Opened film drawing amount c l n k d → Offered film drawing amount d q e → Opened film drawing amount c l n (k + 1) e
@@ -111,8 +116,9 @@ module _ {A B M : Type 0} (film : A → ℕ → ℕ → Answer) (drawing : B →
     figures = f .figures ∙ o .figures;
     taken = f .taken ∙ o .taken;
     picked = subst (λ m. Picked (world film drawing amount c) (c .trial .figures) l n m (f .es ++ o .es)) (sym (add-one k))
-      (go (subst (λ x. Offer (world film drawing amount c) (c .trial .figures) x (f .es)) at
-        (subst (λ g. Offer (world film drawing amount c) g q (f .es)) (o .figures) (subst (λ w. Offer w (d .trial .figures) q (f .es)) (o .queues .same-world) (f .offer))))) }
+        (go (subst (λ x. Offer (world film drawing amount c) (c .trial .figures) x (f .es)) at
+        (subst (λ g. Offer (world film drawing amount c) g q (f .es)) (o .figures) (subst (λ w. Offer w (d .trial .figures) q (f .es)) (o .queues .same-world) (f .offer)))));
+  }
     where
       go : {es : List Suspect} → Offer (world film drawing amount c) (c .trial .figures) (part l n k) es → Picked (world film drawing amount c) (c .trial .figures) l n (suc k) (es ++ o .es)
       go (offer-put x h s r i) = pick x (o .picked) h s r i
@@ -122,9 +128,9 @@ module _ {A B M : Type 0} (film : A → ℕ → ℕ → Answer) (drawing : B →
   -- a place is free for one more
   pub opened-room : (c d : Comparison A B M) (l n k : ℕ) → Opened film drawing amount c l n k d → k < 4 → 4 + length (waiting (c .suspects)) ≤ room (c .suspects) → length (waiting (d .suspects)) < room (d .suspects)
   opened-room c d l n k o h free =
-    let long = length-shuffled (waiting (d .suspects)) (o .es ++ waiting (c .suspects)) (o .queues .waits) in
-    let places : room (d .suspects) ≡ room (c .suspects) = ap (λ w. w .suspects) (o .queues .same-world) in
-    omega (arith, length-append (o .es) (waiting (c .suspects)), few (o .picked))
+      let long = length-shuffled (waiting (d .suspects)) (o .es ++ waiting (c .suspects)) (o .queues .waits) in
+      let places : room (d .suspects) ≡ room (c .suspects) = ap (λ w. w .suspects) (o .queues .same-world) in
+      omega (arith, length-append (o .es) (waiting (c .suspects)), few (o .picked))
     where
       few : {k : ℕ} {es : List Suspect} → Picked (world film drawing amount c) (c .trial .figures) l n k es → length es ≤ k
       few none = omega arith
@@ -156,10 +162,12 @@ module _ {A B M : Type 0} (film : A → ℕ → ℕ → Answer) (drawing : B →
         in-order = λ i. o .queues .in-order (record { heap = i .heap; board = i .board; idle = i .idle });
         waits = o .queues .waits;
         begun = o .queues .begun ∙ b;
-        queued = o .queues .queued ∙ ap (λ n. counted n (length (o .es))) q };
+        queued = o .queues .queued ∙ ap (λ n. counted n (length (o .es))) q;
+      };
       taken = o .taken ∙ t;
       handled = subst (Handled (world film drawing amount c) s (room (c .suspects) - length (waiting (c .suspects))) (c .trial .figures) (o .es)) (sym (o .figures))
-        (opened (s .square .level - 1) (omega arith) i few (o .picked)) }
+          (opened (s .square .level - 1) (omega arith) i few (o .picked));
+    }
 
   -- the board is the only square that waits
   pub started : (c : Comparison A B M) (u t : Trial A B M) (v w : WaitingList Suspect) (b : Bool) (a k p : ℕ) (e : Suspect) (r : Record)
@@ -168,15 +176,17 @@ module _ {A B M : Type 0} (film : A → ℕ → ℕ → Answer) (drawing : B →
       → waiting v ≡ [] → Ready ordered v → room v ≡ room (c .suspects) → Added ordered v e b w → room w ≡ room v → 0 < room (c .suspects)
       → r .begun ≡ true → r .queued ≡ 1 → r .taken ≡ 0
       → Started film drawing amount c a (record {
-          trial = record { film = t .film; drawing = t .drawing; measure = t .measure; neighbours = t .neighbours; square = t .square; figures = record { low = k; film = a; drawing = p } };
-          suspects = w;
-          progress = r })
+        trial = record { film = t .film; drawing = t .drawing; measure = t .measure; neighbours = t .neighbours; square = t .square; figures = record { low = k; film = a; drawing = p } };
+        suspects = w;
+        progress = r;
+      })
   started c u t v w b a k p e r s s' key right whole empty heap places add places' some x y z = record {
     same-world = ap (λ n. over film drawing amount n t) (places' ∙ places) ∙ over-places (room (c .suspects)) u t s' ∙ over-places (room (c .suspects)) (c .trial) u s;
     in-order = λ i. record {
       heap = go b add .0;
       board = subst (All On) (sym (go b add .1)) (subst (λ q. OnBoard (q .level) (q .number)) (sym whole) (omega arith, omega arith), tt);
-      idle = s' .idle (s .idle (i .idle)) };
+      idle = s' .idle (s .idle (i .idle));
+    };
     witness = refl;
     partner = key;
     begun = x;
@@ -185,7 +195,8 @@ module _ {A B M : Type 0} (film : A → ℕ → ℕ → Answer) (drawing : B →
     board = e;
     waits = go b add .1;
     whole = whole;
-    right = subst (λ q. Right q e) (over-places (room (c .suspects)) (c .trial) u s) right }
+    right = subst (λ q. Right q e) (over-places (room (c .suspects)) (c .trial) u s) right;
+  }
     where
       go : (b : Bool) → Added ordered v e b w → Ready ordered w × (waiting w ≡ e ∷ [])
       go true h = ((λ o. h .2 o (heap o)), shuffled-one e (waiting w) (subst (λ xs. Shuffled (e ∷ xs) (waiting w)) empty (h .1)))

@@ -71,16 +71,17 @@ module _ {A B M : Type 0} (film : A → ℕ → ℕ → Answer) (ff : (a : A) �
 
   pub did-begin : (c c' : Comparison A B M) (a e : ℕ) → InOrder c → 0 < room (c .suspects) → 0 < room (c .trial .neighbours) → FirstHeld (film (c .trial .film)) a → Holds (drawing (c .trial .drawing)) e → Started film drawing amount c a c' → Did film drawing amount c Begin Begun c'
   did-begin c c' a e i h h' f o s =
-    did c c' Begin Begun (s .same-world) (s .in-order i) (begins e h h' o (record {
-      first = subst (FirstHeld (film (c .trial .film))) (sym (s .witness)) f;
-      partner = subst (λ x. KeyedAt (world film drawing amount c) 0 x (c' .trial .figures .low) (c' .trial .figures .drawing)) (sym (s .witness)) (s .partner);
-      begun = s .begun;
-      queued = s .queued;
-      taken = s .taken;
-      board = s .board;
-      waiting = s .waits;
-      whole = s .whole;
-      right = s .right }))
+      did c c' Begin Begun (s .same-world) (s .in-order i) (begins e h h' o (record {
+        first = subst (FirstHeld (film (c .trial .film))) (sym (s .witness)) f;
+        partner = subst (λ x. KeyedAt (world film drawing amount c) 0 x (c' .trial .figures .low) (c' .trial .figures .drawing)) (sym (s .witness)) (s .partner);
+        begun = s .begun;
+        queued = s .queued;
+        taken = s .taken;
+        board = s .board;
+        waiting = s .waits;
+        whole = s .whole;
+        right = s .right;
+      }))
 
   module _ (c : Comparison A B M) (i : InOrder c) (b : c .progress .begun ≡ true) (w : WaitingList Suspect) (places : room w ≡ room (c .suspects)) where
     -- the comparison without what was taken
@@ -92,61 +93,63 @@ module _ {A B M : Type 0} (film : A → ℕ → ℕ → Answer) (ff : (a : A) �
 
     pub did-step : (s : Suspect) (c' : Comparison A B M) → Taken ordered (c .suspects) (Some s) w → (OnBoard (s .square .level) (s .square .number) → Handles film drawing amount rest s c') → Did film drawing amount c Step Stepped c'
     did-step s c' t h =
-      let on = all-shuffled On (waiting (c .suspects)) (s ∷ waiting w) (t .0) (i .board) in
-      let x = h (on .0) in
-      let first = all-shuffled (λ y. isLt (before y s) ≡ false) (waiting (c .suspects)) (s ∷ waiting w) (t .0) (t .1 suspects (i .heap suspects) .1) in
-      did c c' Step Stepped (x .queues .same-world ∙ same)
-      (x .queues .in-order (record { heap = λ o. t .1 o (i .heap o) .0; board = on .1; idle = i .idle }))
-      (steps b (record {
-        taken-one = s;
-        queued-now = x .es;
-        rest = waiting w;
-        split = t .0;
-        was-first = first .1;
-        handled = subst (λ v. Handled v s (v .suspects - length (waiting w)) (c .trial .figures) (x .es) (c' .trial .figures)) same (x .handled);
-        waiting = x .queues .waits;
-        begun = x .queues .begun ∙ b;
-        queued = x .queues .queued;
-        taken = x .taken }))
+        let on = all-shuffled On (waiting (c .suspects)) (s ∷ waiting w) (t .0) (i .board) in
+        let x = h (on .0) in
+        let first = all-shuffled (λ y. isLt (before y s) ≡ false) (waiting (c .suspects)) (s ∷ waiting w) (t .0) (t .1 suspects (i .heap suspects) .1) in
+        did c c' Step Stepped (x .queues .same-world ∙ same)
+        (x .queues .in-order (record { heap = λ o. t .1 o (i .heap o) .0; board = on .1; idle = i .idle }))
+        (steps b (record {
+          taken-one = s;
+          queued-now = x .es;
+          rest = waiting w;
+          split = t .0;
+          was-first = first .1;
+          handled = subst (λ v. Handled v s (v .suspects - length (waiting w)) (c .trial .figures) (x .es) (c' .trial .figures)) same (x .handled);
+          waiting = x .queues .waits;
+          begun = x .queues .begun ∙ b;
+          queued = x .queues .queued;
+          taken = x .taken;
+        }))
 
     pub did-no-step : Taken ordered (c .suspects) None w → Did film drawing amount c Step (Refused NothingWaits) rest
     did-no-step t =
-      let e : waiting (c .suspects) ≡ waiting w = t .0 ∙ sym (t .1) in
-      did c rest Step (Refused NothingWaits) same
-      (record { heap = λ o. subst (InHeap o) e (i .heap o); board = subst (All On) e (i .board); idle = i .idle })
-      (subst (λ (xs : List Suspect). let st : State = record { begun = c .progress .begun; figures = c .trial .figures; queued = c .progress .queued; taken = c .progress .taken; waiting = xs } in Steps (world film drawing amount c) (state c) (refused 16 0) st) e (step-late b (t .0)))
+        let e : waiting (c .suspects) ≡ waiting w = t .0 ∙ sym (t .1) in
+        did c rest Step (Refused NothingWaits) same
+        (record { heap = λ o. subst (InHeap o) e (i .heap o); board = subst (All On) e (i .board); idle = i .idle })
+        (subst (λ (xs : List Suspect). let st : State = record { begun = c .progress .begun; figures = c .trial .figures; queued = c .progress .queued; taken = c .progress .taken; waiting = xs } in Steps (world film drawing amount c) (state c) (refused 16 0) st) e (step-late b (t .0)))
 
   pub did-probe : (c : Comparison A B M) (u : Trial A B M) (cell : Cell) → InOrder c → c .progress .begun ≡ true → InFilm (world film drawing amount c) (code-of cell)
       → Stays film drawing amount (c .trial) u → Tried (world film drawing amount c) (λ x. x ≡ code-of cell) (c .trial .figures) (u .figures)
       → Did film drawing amount c (Probe cell) Probed (record { trial = u; suspects = c .suspects; progress = c .progress })
   did-probe c u cell i b o s t =
-    did c (record { trial = u; suspects = c .suspects; progress = c .progress }) (Probe cell) Probed (over-places film drawing amount (room (c .suspects)) (c .trial) u s)
-    (record { heap = i .heap; board = i .board; idle = s .idle (i .idle) })
-    (subst (λ (x : Bool). let st : State = record { begun = x; figures = u .figures; queued = c .progress .queued; taken = c .progress .taken; waiting = waiting (c .suspects) } in Probes (world film drawing amount c) (state c) (code-of cell) probed st) (sym b) (probes b o t))
+      did c (record { trial = u; suspects = c .suspects; progress = c .progress }) (Probe cell) Probed (over-places film drawing amount (room (c .suspects)) (c .trial) u s)
+      (record { heap = i .heap; board = i .board; idle = s .idle (i .idle) })
+      (subst (λ (x : Bool). let st : State = record { begun = x; figures = u .figures; queued = c .progress .queued; taken = c .progress .taken; waiting = waiting (c .suspects) } in Probes (world film drawing amount c) (state c) (code-of cell) probed st) (sym b) (probes b o t))
 
   pub did-look : (c : Comparison A B M) (h n : ℕ) (x y : Cell) → InOrder c → c .progress .begun ≡ true → h ≡ high (state c) → code-of x ≡ c .trial .figures .film → code-of y ≡ c .trial .figures .drawing → n ≡ length (waiting (c .suspects))
       → Did film drawing amount c Look (Looked (record { low = c .trial .figures .low; high = h; film = x; drawing = y; queued = c .progress .queued; taken = c .progress .taken; waiting = n })) c
   did-look c h n x y i b e p q l =
-    did-nothing c Look (Looked (record { low = c .trial .figures .low; high = h; film = x; drawing = y; queued = c .progress .queued; taken = c .progress .taken; waiting = n })) i
-    (subst (λ o. Looks (world film drawing amount c) (state c) o (state c)) said-so (looks b))
+      did-nothing c Look (Looked (record { low = c .trial .figures .low; high = h; film = x; drawing = y; queued = c .progress .queued; taken = c .progress .taken; waiting = n })) i
+      (subst (λ o. Looks (world film drawing amount c) (state c) o (state c)) said-so (looks b))
     where
       said-so : looked (c .trial .figures .low) (high (state c)) (c .trial .figures .film) (c .trial .figures .drawing) (c .progress .queued) (c .progress .taken) (length (waiting (c .suspects)))
-        ≡ looked (c .trial .figures .low) h (code-of x) (code-of y) (c .progress .queued) (c .progress .taken) n
+          ≡ looked (c .trial .figures .low) h (code-of x) (code-of y) (c .progress .queued) (c .progress .taken) n
       said-so = cc
 
   pub did-result : (c : Comparison A B M) (n : ℕ) (x y : Cell) → InOrder c → c .progress .begun ≡ true → n ≡ length (waiting (c .suspects)) → n ≤ 0 → code-of x ≡ c .trial .figures .film → code-of y ≡ c .trial .figures .drawing
       → Did film drawing amount c Result (Answered (record { distance = c .trial .figures .low; film = x; drawing = y })) c
   did-result c n x y i b l z p q =
-    did-nothing c Result (Answered (record { distance = c .trial .figures .low; film = x; drawing = y })) i
-    (subst (λ o. Results (world film drawing amount c) (state c) o (state c)) said-so (results b (none (waiting (c .suspects)) (omega arith))))
+      did-nothing c Result (Answered (record { distance = c .trial .figures .low; film = x; drawing = y })) i
+      (subst (λ o. Results (world film drawing amount c) (state c) o (state c)) said-so (results b (none (waiting (c .suspects)) (omega arith))))
     where
       none : (xs : List Suspect) → length xs ≤ 0 → xs ≡ []
       none [] h = refl
       none (x ∷ xs) h = absurd (omega arith)
+
       said-so : answered (c .trial .figures .low) (c .trial .figures .film) (c .trial .figures .drawing) ≡ answered (c .trial .figures .low) (code-of x) (code-of y)
       said-so = cc
 
   pub did-wait : (c : Comparison A B M) (n : ℕ) → InOrder c → c .progress .begun ≡ true → n ≡ length (waiting (c .suspects)) → 0 < n → Did film drawing amount c Result (Refused (Waits n)) c
   did-wait c n i b l h =
-    did-nothing c Result (Refused (Waits n)) i
-    (subst (λ m. Results (world film drawing amount c) (state c) (refused 17 m) (state c)) (sym l) (result-waits b (omega arith)))
+      did-nothing c Result (Refused (Waits n)) i
+      (subst (λ m. Results (world film drawing amount c) (state c) (refused 17 m) (state c)) (sym l) (result-waits b (omega arith)))

@@ -151,9 +151,9 @@ figures-one f g a b c =
 module _ (w : World) (fs : Facts w) where
   suspect-one : (e d : Suspect) → e .square ≡ d .square → Right w e → Right w d → e ≡ d
   suspect-one e d q r t =
-    let o = laws w fs .one (d .square .level) (d .square .number) (e .key) (e .partner) (d .key) (d .partner) (subst (λ s. KeyedAt w (s .level) (s .number) (e .key) (e .partner)) q r) t in
-    ap₂ (λ (k : ℕ) (s : Square). let z : Suspect = record { key = k; square = s; partner = e .partner } in z) (o .0) q
-    ∙ ap (λ (p : ℕ). let z : Suspect = record { key = d .key; square = d .square; partner = p } in z) (o .1)
+      let o = laws w fs .one (d .square .level) (d .square .number) (e .key) (e .partner) (d .key) (d .partner) (subst (λ s. KeyedAt w (s .level) (s .number) (e .key) (e .partner)) q r) t in
+      ap₂ (λ (k : ℕ) (s : Square). let z : Suspect = record { key = k; square = s; partner = e .partner } in z) (o .0) q
+      ∙ ap (λ (p : ℕ). let z : Suspect = record { key = d .key; square = d .square; partner = p } in z) (o .1)
 
   tried-one : (P : ℕ → Type 0) (f g h : Figures) → Tried w P f g → Tried w P f h → g ≡ h
   tried-one P f g h s t = go (s .source) (t .source)
@@ -163,18 +163,18 @@ module _ (w : World) (fs : Facts w) where
       go (inl a) (inr b) = absurd (s .best (h .film) (h .low) (h .drawing) (b .0) (b .1) (b .2) (subst (λ x. Improves x (h .low) (h .film)) (sym a) (b .3)))
       go (inr a) (inl b) = absurd (t .best (g .film) (g .low) (g .drawing) (a .0) (a .1) (a .2) (subst (λ x. Improves x (g .low) (g .film)) (sym b) (a .3)))
       go (inr a) (inr b) =
-        let x = settled-from g (h .low) (h .film) (s .best (h .film) (h .low) (h .drawing) (b .0) (b .1) (b .2)) in
-        let y = settled-from h (g .low) (g .film) (t .best (g .film) (g .low) (g .drawing) (a .0) (a .1) (a .2)) in
-        let low : g .low ≡ h .low = omega (arith, x .0, y .0) in
-        let film : g .film ≡ h .film = omega (arith, x .1 (sym low), y .1 low) in
-        let o = laws w fs .one 0 (h .film) (g .low) (g .drawing) (h .low) (h .drawing) (subst (λ c. KeyedAt w 0 c (g .low) (g .drawing)) film (a .2)) (b .2) in
-        figures-one g h low film (o .1)
+          let x = settled-from g (h .low) (h .film) (s .best (h .film) (h .low) (h .drawing) (b .0) (b .1) (b .2)) in
+          let y = settled-from h (g .low) (g .film) (t .best (g .film) (g .low) (g .drawing) (a .0) (a .1) (a .2)) in
+          let low : g .low ≡ h .low = omega (arith, x .0, y .0) in
+          let film : g .film ≡ h .film = omega (arith, x .1 (sym low), y .1 low) in
+          let o = laws w fs .one 0 (h .film) (g .low) (g .drawing) (h .low) (h .drawing) (subst (λ c. KeyedAt w 0 c (g .low) (g .drawing)) film (a .2)) (b .2) in
+          figures-one g h low film (o .1)
 
   -- the key of an entry for a part, and of the part
   part-key : (f : Figures) (l n k : ℕ) (e : Suspect) (key p : ℕ) → e .square ≡ part l n k → Right w e → Improves f (e .key) (first-code (e .square)) → KeyedAt w l (4 * n + k) key p → (Improves f key (first-code (part l n k)) → ⊥) → ⊥
   part-key f l n k e key p a r i x j =
-    let o = laws w fs .one l (4 * n + k) (e .key) (e .partner) key p (subst (λ s. KeyedAt w (s .level) (s .number) (e .key) (e .partner)) a r) x in
-    j (subst (λ y. Improves f y (first-code (part l n k))) (o .0) (subst (λ s. Improves f (e .key) (first-code s)) a i))
+      let o = laws w fs .one l (4 * n + k) (e .key) (e .partner) key p (subst (λ s. KeyedAt w (s .level) (s .number) (e .key) (e .partner)) a r) x in
+      j (subst (λ y. Improves f y (first-code (part l n k))) (o .0) (subst (λ s. Improves f (e .key) (first-code s)) a i))
 
   picked-one : (f : Figures) (l n : ℕ) {k : ℕ} {es ds : List Suspect} → Picked w f l n k es → Picked w f l n k ds → es ≡ ds
   picked-one f l n none none = refl
@@ -208,37 +208,39 @@ module _ (w : World) (fs : Facts w) where
 
   step-one : (st st' su su' : State) → Same st su → Advanced w st st' → Advanced w su su' → Same st' su'
   step-one st st' su su' m p q =
-    let all : Shuffled (p .taken-one ∷ p .rest) (q .taken-one ∷ q .rest) =
-          shuffled-trans _ (st .waiting) _ (shuffled-sym (st .waiting) (p .taken-one ∷ p .rest) (p .split)) (shuffled-trans (st .waiting) (su .waiting) _ (m .waiting) (q .split)) in
-    let t : p .taken-one ≡ q .taken-one = first-one (p .taken-one) (q .taken-one) (p .rest) (q .rest) all (p .was-first) (q .was-first) in
-    let rest : Shuffled (p .rest) (q .rest) = shuffled-rest (q .taken-one) (p .rest) (q .rest) (subst (λ x. Shuffled (x ∷ p .rest) (q .taken-one ∷ q .rest)) t all) in
-    let long : length (p .rest) ≡ length (q .rest) = sym (length-shuffled (p .rest) (q .rest) rest) in
-    let h : Handled w (q .taken-one) (w .suspects - length (q .rest)) (su .figures) (p .queued-now) (st' .figures) =
-          subst (λ x. Handled w (q .taken-one) (w .suspects - length (q .rest)) x (p .queued-now) (st' .figures)) (m .figures)
-          (subst (λ x. Handled w (q .taken-one) (w .suspects - x) (st .figures) (p .queued-now) (st' .figures)) long
-            (subst (λ x. Handled w x (w .suspects - length (p .rest)) (st .figures) (p .queued-now) (st' .figures)) t (p .handled))) in
-    let o = handled-one (q .taken-one) (w .suspects - length (q .rest)) (su .figures) h (q .handled) in
-    record {
-      begun = p .begun ∙ sym (q .begun);
-      figures = o .1;
-      queued = p .queued ∙ ap₂ counted (m .queued) (ap length (o .0)) ∙ sym (q .queued);
-      taken = p .taken ∙ ap (λ x. counted x 1) (m .taken) ∙ sym (q .taken);
-      waiting = shuffled-trans (st' .waiting) (p .queued-now ++ p .rest) (su' .waiting) (p .waiting)
-        (shuffled-trans (p .queued-now ++ p .rest) (q .queued-now ++ q .rest) (su' .waiting)
-          (subst (λ x. Shuffled (p .queued-now ++ p .rest) (x ++ q .rest)) (o .0) (behind (p .queued-now) rest))
-          (shuffled-sym (su' .waiting) (q .queued-now ++ q .rest) (q .waiting))) }
+      let all : Shuffled (p .taken-one ∷ p .rest) (q .taken-one ∷ q .rest) =
+      shuffled-trans _ (st .waiting) _ (shuffled-sym (st .waiting) (p .taken-one ∷ p .rest) (p .split)) (shuffled-trans (st .waiting) (su .waiting) _ (m .waiting) (q .split)) in
+      let t : p .taken-one ≡ q .taken-one = first-one (p .taken-one) (q .taken-one) (p .rest) (q .rest) all (p .was-first) (q .was-first) in
+      let rest : Shuffled (p .rest) (q .rest) = shuffled-rest (q .taken-one) (p .rest) (q .rest) (subst (λ x. Shuffled (x ∷ p .rest) (q .taken-one ∷ q .rest)) t all) in
+      let long : length (p .rest) ≡ length (q .rest) = sym (length-shuffled (p .rest) (q .rest) rest) in
+      let h : Handled w (q .taken-one) (w .suspects - length (q .rest)) (su .figures) (p .queued-now) (st' .figures) =
+      subst (λ x. Handled w (q .taken-one) (w .suspects - length (q .rest)) x (p .queued-now) (st' .figures)) (m .figures)
+      (subst (λ x. Handled w (q .taken-one) (w .suspects - x) (st .figures) (p .queued-now) (st' .figures)) long
+      (subst (λ x. Handled w x (w .suspects - length (p .rest)) (st .figures) (p .queued-now) (st' .figures)) t (p .handled))) in
+      let o = handled-one (q .taken-one) (w .suspects - length (q .rest)) (su .figures) h (q .handled) in
+      record {
+        begun = p .begun ∙ sym (q .begun);
+        figures = o .1;
+        queued = p .queued ∙ ap₂ counted (m .queued) (ap length (o .0)) ∙ sym (q .queued);
+        taken = p .taken ∙ ap (λ x. counted x 1) (m .taken) ∙ sym (q .taken);
+        waiting = shuffled-trans (st' .waiting) (p .queued-now ++ p .rest) (su' .waiting) (p .waiting)
+            (shuffled-trans (p .queued-now ++ p .rest) (q .queued-now ++ q .rest) (su' .waiting)
+            (subst (λ x. Shuffled (p .queued-now ++ p .rest) (x ++ q .rest)) (o .0) (behind (p .queued-now) rest))
+            (shuffled-sym (su' .waiting) (q .queued-now ++ q .rest) (q .waiting)));
+      }
 
   opening-one : (st su : State) → Opening w st → Opening w su → Same st su
   opening-one st su p q =
-    let film : st .figures .film ≡ su .figures .film = omega (arith, p .first .first (su .figures .film) (q .first .held), q .first .first (st .figures .film) (p .first .held)) in
-    let o = laws w fs .one 0 (su .figures .film) (st .figures .low) (st .figures .drawing) (su .figures .low) (su .figures .drawing) (subst (λ c. KeyedAt w 0 c (st .figures .low) (st .figures .drawing)) film (p .partner)) (q .partner) in
-    let b = suspect-one (p .board) (q .board) (p .whole ∙ sym (q .whole)) (p .right) (q .right) in
-    record {
-      begun = p .begun ∙ sym (q .begun);
-      figures = figures-one (st .figures) (su .figures) (o .0) film (o .1);
-      queued = p .queued ∙ sym (q .queued);
-      taken = p .taken ∙ sym (q .taken);
-      waiting = subst (Shuffled (st .waiting)) (p .waiting ∙ ap (λ x. x ∷ []) b ∙ sym (q .waiting)) (shuffled-refl (st .waiting)) }
+      let film : st .figures .film ≡ su .figures .film = omega (arith, p .first .first (su .figures .film) (q .first .held), q .first .first (st .figures .film) (p .first .held)) in
+      let o = laws w fs .one 0 (su .figures .film) (st .figures .low) (st .figures .drawing) (su .figures .low) (su .figures .drawing) (subst (λ c. KeyedAt w 0 c (st .figures .low) (st .figures .drawing)) film (p .partner)) (q .partner) in
+      let b = suspect-one (p .board) (q .board) (p .whole ∙ sym (q .whole)) (p .right) (q .right) in
+      record {
+        begun = p .begun ∙ sym (q .begun);
+        figures = figures-one (st .figures) (su .figures) (o .0) film (o .1);
+        queued = p .queued ∙ sym (q .queued);
+        taken = p .taken ∙ sym (q .taken);
+        waiting = subst (Shuffled (st .waiting)) (p .waiting ∙ ap (λ x. x ∷ []) b ∙ sym (q .waiting)) (shuffled-refl (st .waiting));
+      }
 
   abbrev One : State → Said → State → Said → Type 0
   One st' o su' u = (o ≡ u) × Same st' su'
@@ -293,7 +295,7 @@ module _ (w : World) (fs : Facts w) where
 
   probes-one : (st st' su su' : State) (c : ℕ) (o u : Said) → Same st su → Probes w st c o st' → Probes w su c u su' → One st' o su' u
   probes-one st st' su su' c o u m (probes {g = g} b h t) (probes {g = g'} b' h' t') =
-    (refl, record { begun = refl; figures = tried-one (λ x. x ≡ c) (su .figures) g g' (subst (λ f. Tried w (λ x. x ≡ c) f g) (m .figures) t) t'; queued = m .queued; taken = m .taken; waiting = m .waiting })
+      (refl, record { begun = refl; figures = tried-one (λ x. x ≡ c) (su .figures) g g' (subst (λ f. Tried w (λ x. x ≡ c) f g) (m .figures) t) t'; queued = m .queued; taken = m .taken; waiting = m .waiting })
   probes-one st st' su su' c o u m (probes b h t) (not-held n) = absurd (n h)
   probes-one st st' su su' c o u m (probes b h t) (probe-early h' b') = apart st su m b b'
   probes-one st st' su su' c o u m (not-held n) (probes b h t) = absurd (n h)
@@ -305,16 +307,16 @@ module _ (w : World) (fs : Facts w) where
 
   looks-one : (st st' su su' : State) (o u : Said) → Same st su → Looks w st o st' → Looks w su u su' → One st' o su' u
   looks-one st st' su su' o u m (looks b) (looks c) =
-    let f = m .figures in
-    let g = greatest-shuffled (st .waiting) (su .waiting) (m .waiting) in
-    let hi : high st ≡ high su = ap₂ (λ x y. max (x .low) y) f g in
-    let n = sym (same-long st su m) in
-    let low : st .figures .low ≡ su .figures .low = ap (λ x. x .low) f in
-    let a : st .figures .film ≡ su .figures .film = ap (λ x. x .film) f in
-    let d : st .figures .drawing ≡ su .figures .drawing = ap (λ x. x .drawing) f in
-    let q = m .queued in
-    let t = m .taken in
-    (cc, m)
+      let f = m .figures in
+      let g = greatest-shuffled (st .waiting) (su .waiting) (m .waiting) in
+      let hi : high st ≡ high su = ap₂ (λ x y. max (x .low) y) f g in
+      let n = sym (same-long st su m) in
+      let low : st .figures .low ≡ su .figures .low = ap (λ x. x .low) f in
+      let a : st .figures .film ≡ su .figures .film = ap (λ x. x .film) f in
+      let d : st .figures .drawing ≡ su .figures .drawing = ap (λ x. x .drawing) f in
+      let q = m .queued in
+      let t = m .taken in
+      (cc, m)
   looks-one st st' su su' o u m (looks b) (look-early c) = apart st su m b c
   looks-one st st' su su' o u m (look-early b) (looks c) = apart-back st su m b c
   looks-one st st' su su' o u m (look-early b) (look-early c) = (refl, m)
@@ -340,9 +342,9 @@ module _ (w : World) (fs : Facts w) where
   run-one : {st st' su su' : State} {cs : List Call} {os us : List Said} → Same st su → Run w st cs os st' → Run w su cs us su' → (os ≡ us) × Same st' su'
   run-one m stop stop = (refl, m)
   run-one m (next d r) (next e q) =
-    let a = does-one _ _ _ _ _ _ _ m d e in
-    let b = run-one (a .1) r q in
-    (ap₂ (λ (x : Said) (xs : List Said). x ∷ xs) (a .0) (b .0), b .1)
+      let a = does-one _ _ _ _ _ _ _ m d e in
+      let b = run-one (a .1) r q in
+      (ap₂ (λ (x : Said) (xs : List Said). x ∷ xs) (a .0) (b .0), b .1)
 
 pub runs-are-one : Runs-are-one
 runs-are-one w fs cs os os' st st' r q = run-one w fs (record { begun = refl; figures = refl; queued = refl; taken = refl; waiting = shuffled-refl [] }) r q

@@ -61,14 +61,16 @@ module _ {A B M : Type 0} (film : A → ℕ → ℕ → Answer) (drawing : B →
   meets-empty v s h n = record {
     later = later-same v;
     done-below = λ e q u i o k p r im.
-      let z : s .level ≡ 0 = omega arith in
-      both-ways (counts (film (v .film) 0 (s .number))) (subst (λ l. counts (film (v .film) l (s .number)) ≡ false) z n) (subst (λ x. Holds (film (v .film)) x) (under-one (s .level) (s .number) q h u) o) }
+        let z : s .level ≡ 0 = omega arith in
+        both-ways (counts (film (v .film) 0 (s .number))) (subst (λ l. counts (film (v .film) l (s .number)) ≡ false) z n) (subst (λ x. Holds (film (v .film)) x) (under-one (s .level) (s .number) q h u) o);
+  }
 
   -- a cell of another square
   pub meets-other : (v : Trial A B M) (s : Square) → s .level ≤ 0 → (Inside (v .square .level) (v .square .number) (s .number) → ⊥) → Meets v s false v
   meets-other v s h n = record {
     later = later-same v;
-    done-below = λ e q u i o k p r im. n (subst (Inside (v .square .level) (v .square .number)) (under-one (s .level) (s .number) q h u) i) }
+    done-below = λ e q u i o k p r im. n (subst (Inside (v .square .level) (v .square .number)) (under-one (s .level) (s .number) q h u) i);
+  }
 
   module _ (v w : Trial A B M) (n : ℕ) (st : Stays film drawing amount v w) (sq : w .square ≡ v .square) (t : Tried (over film drawing amount 0 v) (λ x. x ≡ n) (v .figures) (w .figures)) where
     worse : (k c : ℕ) → Improves (w .figures) k c → Improves (v .figures) k c
@@ -80,31 +82,35 @@ module _ {A B M : Type 0} (film : A → ℕ → ℕ → Answer) (drawing : B →
 
     keeps : (q : ℕ) → done film drawing amount v q → done film drawing amount w q
     keeps q d i o k p r im =
-      d (subst (λ s. Inside (s .level) (s .number) q) sq i) (subst (λ x. InFilm x q) (st .world) o) k p (subst (λ x. KeyedAt x 0 q k p) (st .world) r) (worse k q im)
+        d (subst (λ s. Inside (s .level) (s .number) q) sq i) (subst (λ x. InFilm x q) (st .world) o) k p (subst (λ x. KeyedAt x 0 q k p) (st .world) r) (worse k q im)
 
     from : Inside (v .square .level) (v .square .number) n → (u : Trial A B M) → Dived film drawing amount u v → Dived film drawing amount u w
     from i u d = record {
       stays = stays-onward (d .stays) st;
       square = sq ∙ d .square;
-      source = go (t .source) }
+      source = go (t .source);
+    }
       where
         first : Source (over film drawing amount 0 u) (Inside (u .square .level) (u .square .number)) (u .figures) (v .figures) → Improves (v .figures) (w .figures .low) (w .figures .film) → Improves (u .figures) (w .figures .low) (w .figures .film)
         first (inl e) im = subst (λ f. Improves f (w .figures .low) (w .figures .film)) e im
         first (inr s) im = improves-onward (u .figures) (v .figures) (w .figures .low) (w .figures .film) (s .3) im
+
         go : Source (over film drawing amount 0 v) (λ x. x ≡ n) (v .figures) (w .figures) → Source (over film drawing amount 0 u) (Inside (u .square .level) (u .square .number)) (u .figures) (w .figures)
         go (inl e) = subst (Source (over film drawing amount 0 u) (Inside (u .square .level) (u .square .number)) (u .figures)) (sym e) (d .source)
         go (inr s) = inr (
           subst (λ s. Inside (s .level) (s .number) (w .figures .film)) (d .square) (subst (Inside (v .square .level) (v .square .number)) (sym (s .0)) i),
           subst (λ x. InFilm x (w .figures .film)) (d .stays .world) (s .1),
           subst (λ x. KeyedAt x 0 (w .figures .film) (w .figures .low) (w .figures .drawing)) (d .stays .world) (s .2),
-          first (d .source) (s .3))
+          first (d .source) (s .3),
+        )
 
     -- a cell that is tried
     pub meets-cell : (s : Square) → s .level ≤ 0 → s .number ≡ n → Inside (v .square .level) (v .square .number) n → Meets v s false w
     meets-cell s h e i = record {
       later = record { same = refl; begun = refl; keeps = keeps; from = from i };
       done-below = λ z q u j o k p r im.
-        t .best q k p (under-one (s .level) (s .number) q h u ∙ e) (subst (λ x. InFilm x q) (st .world) o) (subst (λ x. KeyedAt x 0 q k p) (st .world) r) im }
+          t .best q k p (under-one (s .level) (s .number) q h u ∙ e) (subst (λ x. InFilm x q) (st .world) o) (subst (λ x. KeyedAt x 0 q k p) (st .world) r) im;
+    }
 
   -- the walk is over
   module _ (u v : Trial A B M) (met : Meets u (u .square) false v) where
@@ -118,7 +124,8 @@ module _ {A B M : Type 0} (film : A → ℕ → ℕ → Answer) (drawing : B →
     walked-tried n = record {
       source = dived .source;
       best = λ c k p i o r im.
-        met .done-below refl c (cells-under (u .square .level) (u .square .number) c i)
-        (subst (λ s. Inside (s .level) (s .number) c) (sym (dived .square)) i)
-        (subst (λ x. InFilm x c) (sym (dived .stays .world)) o) k p
-        (subst (λ x. KeyedAt x 0 c k p) (sym (dived .stays .world)) r) im }
+          met .done-below refl c (cells-under (u .square .level) (u .square .number) c i)
+          (subst (λ s. Inside (s .level) (s .number) c) (sym (dived .square)) i)
+          (subst (λ x. InFilm x c) (sym (dived .stays .world)) o) k p
+          (subst (λ x. KeyedAt x 0 c k p) (sym (dived .stays .world)) r) im;
+    }

@@ -139,7 +139,8 @@ keyed p l n h = inl (record {
   counted = drawing-zero l h;
   amount = refl;
   least = λ q y. subst (λ x. far squared l n l 0 ≤ far squared l n l x) (sym (drawing-only l q y)) (omega arith);
-  earliest = λ q y e. omega arith })
+  earliest = λ q y e. omega arith;
+})
 
 keyed-0 : (p : ℕ) → KeyedAt (films p) 0 0 0 0
 keyed-0 p = subst (λ k. KeyedAt (films p) 0 0 k 0) far-0 (keyed p 0 0 (omega arith))
@@ -180,7 +181,8 @@ opens-board p = record {
   board = sus 16;
   waiting = refl;
   whole = refl;
-  right = keyed p 16 0 (omega arith) }
+  right = keyed p 16 0 (omega arith);
+}
 
 -- the square of level l + 1 is opened, and one quarter is queued
 opens : (l : ℕ) → 1 ≤ l → l ≤ 15 → Advanced (films 4) (at (suc l)) (at l)
@@ -191,12 +193,13 @@ opens l h g = record {
   split = shuffled-refl (sus (suc l) ∷ []);
   was-first = tt;
   handled = opened l (sym (add-one l)) (inl (let b = big (suc l) (omega arith) in omega arith)) (omega arith)
-    (pass-empty (pass-empty (pass-empty (pick (sus l) none (film-zero l (omega arith)) refl (keyed 4 l 0 (omega arith)) (inl (let b = big l h in omega arith)))
+      (pass-empty (pass-empty (pass-empty (pick (sus l) none (film-zero l (omega arith)) refl (keyed 4 l 0 (omega arith)) (inl (let b = big l h in omega arith)))
       (film-off l 1 h (omega arith))) (film-off l 2 h (omega arith))) (film-off l 3 h (omega arith)));
   waiting = shuffled-refl (sus l ∷ []);
   begun = refl;
   queued = omega arith;
-  taken = omega arith }
+  taken = omega arith;
+}
 
 -- the square of level 1: its first cell does not improve, its last does
 opens-last : Advanced (films 4) (at 1) (at-cell low-0)
@@ -207,11 +210,12 @@ opens-last = record {
   split = shuffled-refl (sus 1 ∷ []);
   was-first = tt;
   handled = opened 0 refl (inl (let b = big 1 (omega arith) in omega arith)) (omega arith)
-    (pick cell-3 (pass-empty (pass-empty (pass 0 0 none (keyed-0 4) (λ i. omega arith)) off-1) off-2) on-3 refl (keyed-3 4) (inl (omega arith)));
+      (pick cell-3 (pass-empty (pass-empty (pass 0 0 none (keyed-0 4) (λ i. omega arith)) off-1) off-2) on-3 refl (keyed-3 4) (inl (omega arith)));
   waiting = shuffled-refl (cell-3 ∷ []);
   begun = refl;
   queued = refl;
-  taken = refl }
+  taken = refl;
+}
 
 settles : Advanced (films 4) (at-cell low-0) (ended 17)
 settles = record {
@@ -224,7 +228,8 @@ settles = record {
   waiting = shuffled-refl [];
   begun = refl;
   queued = refl;
-  taken = refl }
+  taken = refl;
+}
 
 drops : Advanced (films 4) (at-cell low-2) (ended 17)
 drops = record {
@@ -237,7 +242,8 @@ drops = record {
   waiting = shuffled-refl [];
   begun = refl;
   queued = refl;
-  taken = refl }
+  taken = refl;
+}
 
 -- no cell improves the figures of the last
 best : (p c k q : ℕ) → InFilm (films 0) c → KeyedAt (films p) 0 c k q → Improves low-2 k c → ⊥
@@ -261,7 +267,8 @@ sinks = record {
   waiting = shuffled-refl [];
   begun = refl;
   queued = refl;
-  taken = refl }
+  taken = refl;
+}
 
 -- from the square of level l + 1 down to the cell
 descends : (l : ℕ) → l ≤ 15 → {cs : List Call} {os : List Said} {st : State} → Run (films 4) (at-cell low-0) cs os st → Run (films 4) (at (suc l)) (replicate (suc l) Step ++ cs) (replicate (suc l) stepped ++ os) st
@@ -278,10 +285,23 @@ pub runs-exist : Runs-exist
 unfolding digits
 runs-exist = record {
   facts = facts;
-  opened-and-settled = (ended 17, refl, refl,
-    next (step-early refl) (begins-so 4 (omega arith) (descends 15 (omega arith) (next (steps refl settles) (next (results refl refl) stop)))));
-  probed-and-dropped = (ended 17, refl, refl,
+  opened-and-settled = (
+    ended 17,
+    refl,
+    refl,
+    next (step-early refl) (begins-so 4 (omega arith) (descends 15 (omega arith) (next (steps refl settles) (next (results refl refl) stop)))),
+  );
+  probed-and-dropped = (
+    ended 17,
+    refl,
+    refl,
     begins-so 4 (omega arith) (descends 15 (omega arith)
-      (next (result-waits refl (omega arith)) (next (probes refl held-3 (tried 4 (λ x. x ≡ 3) refl)) (next (steps refl drops) (next (results refl refl) (next (not-held not-beside) stop)))))));
-  finished-in-depth = (ended 1, refl, refl,
-    begins-so 1 (omega arith) (next (steps refl sinks) (next (results refl refl) (next (step-late refl refl) stop)))) }
+        (next (result-waits refl (omega arith)) (next (probes refl held-3 (tried 4 (λ x. x ≡ 3) refl)) (next (steps refl drops) (next (results refl refl) (next (not-held not-beside) stop)))))),
+  );
+  finished-in-depth = (
+    ended 1,
+    refl,
+    refl,
+    begins-so 1 (omega arith) (next (steps refl sinks) (next (results refl refl) (next (step-late refl refl) stop))),
+  );
+}

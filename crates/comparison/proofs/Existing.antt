@@ -28,24 +28,36 @@ module _ (P : ℕ → Type 0) (decide : (c : ℕ) → P c ⊎ (P c → ⊥)) (m 
   more : (n : ℕ) → None n ⊎ First P m n → P n ⊎ (P n → ⊥) → None (suc n) ⊎ First P m (suc n)
   more n (inl none) (inr not) = inl (λ c h p. last n c h (λ l. none c l p) (λ e. not (subst P e p)))
   more n (inl none) (inl here) = inr (record {
-    at = n; within = omega arith; holds = here;
+    at = n;
+    within = omega arith;
+    holds = here;
     greatest = λ c h p. last n c h (λ l. absurd (none c l p)) (λ e. rw e (omega arith));
-    earliest = λ c h p q. last n c h (λ l. absurd (none c l p)) (λ e. omega arith) })
+    earliest = λ c h p q. last n c h (λ l. absurd (none c l p)) (λ e. omega arith);
+  })
   more n (inr f) (inr not) = inr (record {
-    at = f .at; within = omega (arith, f .within); holds = f .holds;
+    at = f .at;
+    within = omega (arith, f .within);
+    holds = f .holds;
     greatest = λ c h p. last n c h (λ l. f .greatest c l p) (λ e. absurd (not (subst P e p)));
-    earliest = λ c h p q. last n c h (λ l. f .earliest c l p q) (λ e. absurd (not (subst P e p))) })
+    earliest = λ c h p q. last n c h (λ l. f .earliest c l p q) (λ e. absurd (not (subst P e p)));
+  })
   more n (inr f) (inl here) = go (cases-lt (m (f .at)) (m n))
     where
       go : (m (f .at) < m n) ⊎ (m n ≤ m (f .at)) → None (suc n) ⊎ First P m (suc n)
       go (inl lt) = inr (record {
-        at = n; within = omega arith; holds = here;
+        at = n;
+        within = omega arith;
+        holds = here;
         greatest = λ c h p. last n c h (λ l. omega (arith, f .greatest c l p)) (λ e. rw e (omega arith));
-        earliest = λ c h p q. last n c h (λ l. absurd (omega (arith, f .greatest c l p))) (λ e. omega arith) })
+        earliest = λ c h p q. last n c h (λ l. absurd (omega (arith, f .greatest c l p))) (λ e. omega arith);
+      })
       go (inr le) = inr (record {
-        at = f .at; within = omega (arith, f .within); holds = f .holds;
+        at = f .at;
+        within = omega (arith, f .within);
+        holds = f .holds;
         greatest = λ c h p. last n c h (λ l. f .greatest c l p) (λ e. rw e le);
-        earliest = λ c h p q. last n c h (λ l. f .earliest c l p q) (λ e. omega (arith, f .within)) })
+        earliest = λ c h p q. last n c h (λ l. f .earliest c l p q) (λ e. omega (arith, f .within));
+      })
 
   first-to : (n : ℕ) → None n ⊎ First P m n
   first-to zero = inl (λ c h p. omega arith)
@@ -73,13 +85,16 @@ module _ (t : ℕ → ℕ → Answer) (facts : StoreFacts t) where
 module _ (w : World) (fs : Facts w) where
   pub nearest-exists : (q : ℕ) → InDrawing w q → (a : ℕ) → a < 2 ^ 32 → (e : ℕ) × NearestTo w a e
   nearest-exists q h a lt =
-    let b = bounds (w .measure) (fs .measure) in
-    let f = held-first (w .drawing) (fs .drawing) (2 ^ 32) (λ c o. drawing-code w fs c o) (λ c. 2 ^ 40 - dist w a c) q h in
-    let limit = λ (c : ℕ) (o : InDrawing w c). b .cell-limited a c lt (drawing-code w fs c o) in
-    (f .at, record {
-      held = f .holds;
-      nearest = λ c o. omega (arith, f .greatest c (drawing-code w fs c o) o, limit c o, limit (f .at) (f .holds));
-      earliest = λ c o e. f .earliest c (drawing-code w fs c o) o (rw e refl) })
+      let b = bounds (w .measure) (fs .measure) in
+      let f = held-first (w .drawing) (fs .drawing) (2 ^ 32) (λ c o. drawing-code w fs c o) (λ c. 2 ^ 40 - dist w a c) q h in
+      let limit = λ (c : ℕ) (o : InDrawing w c). b .cell-limited a c lt (drawing-code w fs c o) in (
+        f .at,
+        record {
+          held = f .holds;
+          nearest = λ c o. omega (arith, f .greatest c (drawing-code w fs c o) o, limit c o, limit (f .at) (f .holds));
+          earliest = λ c o e. f .earliest c (drawing-code w fs c o) o (rw e refl);
+        },
+      )
 
   -- what no held cell betters is the distance
   pub strays-from : (a b : ℕ) → InFilm w a → NearestTo w a b
@@ -90,13 +105,14 @@ module _ (w : World) (fs : Facts w) where
     partner = near;
     amount = e;
     farthest = λ c h.
-      let n = nearest-exists b (near .held) c (film-code w fs c h) in
-      (n .0, n .1 .held, omega (arith, all c (n .0) h (n .1) .0));
+        let n = nearest-exists b (near .held) c (film-code w fs c h) in
+        (n .0, n .1 .held, omega (arith, all c (n .0) h (n .1) .0));
     earliest = λ c h least.
-      let n = nearest-exists b (near .held) c (film-code w fs c h) in
-      let x = all c (n .0) h (n .1) in
-      let y = least (n .0) (n .1 .held) in
-      x .1 (omega (arith, x .0)) }
+        let n = nearest-exists b (near .held) c (film-code w fs c h) in
+        let x = all c (n .0) h (n .1) in
+        let y = least (n .0) (n .1 .held) in
+        x .1 (omega (arith, x .0));
+  }
 
   pub strays-exists : (p q : ℕ) → InFilm w p → InDrawing w q → (d : ℕ) × (a : ℕ) × (b : ℕ) × Strayed w d a b
   strays-exists p q o h = go (held-first (w .film) (fs .film) (2 ^ 32) (λ c y. film-code w fs c y) far p o)
@@ -105,20 +121,27 @@ module _ (w : World) (fs : Facts w) where
       near : (c : ℕ) → (c < 2 ^ 32) ⊎ (2 ^ 32 ≤ c) → ℕ
       near c (inl lt) = dist w c (nearest-exists q h c lt .0)
       near c (inr ge) = 0
+
       far : ℕ → ℕ
       far c = near c (cases-lt c (2 ^ 32))
+
       same : (c e : ℕ) → InFilm w c → NearestTo w c e → (x : (c < 2 ^ 32) ⊎ (2 ^ 32 ≤ c)) → near c x ≡ dist w c e
       same c e y n (inl lt) =
-        let m = nearest-exists q h c lt in
-        omega (arith, n .nearest (m .0) (m .1 .held), m .1 .nearest e (n .held))
+          let m = nearest-exists q h c lt in
+          omega (arith, n .nearest (m .0) (m .1 .held), m .1 .nearest e (n .held))
       same c e y n (inr ge) = absurd (omega (arith, film-code w fs c y))
+
       go : First (Holds (w .film)) far (2 ^ 32) → (d : ℕ) × (a : ℕ) × (b : ℕ) × Strayed w d a b
       go f =
-        let n = nearest-exists q h (f .at) (f .within) in
-        let s = same (f .at) (n .0) (f .holds) (n .1) (cases-lt (f .at) (2 ^ 32)) in
-        (dist w (f .at) (n .0), f .at, n .0, strays-from (f .at) (n .0) (f .holds) (n .1)
-          (λ c e y m.
-            let t = same c e y m (cases-lt c (2 ^ 32)) in
-            let lt = film-code w fs c y in
-            (omega (arith, f .greatest c lt y), λ z. f .earliest c lt y (t ∙ z ∙ sym s)))
-          (dist w (f .at) (n .0)) refl)
+          let n = nearest-exists q h (f .at) (f .within) in
+          let s = same (f .at) (n .0) (f .holds) (n .1) (cases-lt (f .at) (2 ^ 32)) in (
+            dist w (f .at) (n .0),
+            f .at,
+            n .0,
+            strays-from (f .at) (n .0) (f .holds) (n .1)
+                (λ c e y m.
+                let t = same c e y m (cases-lt c (2 ^ 32)) in
+                let lt = film-code w fs c y in
+                (omega (arith, f .greatest c lt y), λ z. f .earliest c lt y (t ∙ z ∙ sym s)))
+                (dist w (f .at) (n .0)) refl,
+          )

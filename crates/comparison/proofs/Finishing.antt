@@ -68,20 +68,22 @@ module _ {A B M : Type 0} (film : A → ℕ → ℕ → Answer) (drawing : B →
     steps = suc (a .steps);
     many = let k = a .many in omega arith;
     run = subst (λ cs. Run (world film drawing amount c) (state c) cs (replicate (suc (a .steps)) stepped) (state e)) (replicate-push (a .steps) Step)
-      (subst (λ os. Run (world film drawing amount c) (state c) (replicate (a .steps) Step ++ Step ∷ []) os (state e)) (replicate-push (a .steps) stepped)
-        (extended (world film drawing amount c) Step stepped (a .run) (subst (λ w. Does w (state d) Step stepped (state e)) (a .same-world) (b .does)))) }
+        (subst (λ os. Run (world film drawing amount c) (state c) (replicate (a .steps) Step ++ Step ∷ []) os (state e)) (replicate-push (a .steps) stepped)
+        (extended (world film drawing amount c) Step stepped (a .run) (subst (λ w. Does w (state d) Step stepped (state e)) (a .same-world) (b .does))));
+  }
 
   -- where nothing waits, taking changes nothing
   pub marching-rest : (c d : Comparison A B M) (n : ℕ) (w : WaitingList Suspect) → Marching c n d → room w ≡ room (d .suspects) → Taken ordered (d .suspects) None w → Marching c n (record { trial = d .trial; suspects = w; progress = d .progress })
   marching-rest c d n w a places t =
-    let e : waiting (d .suspects) ≡ waiting w = t .0 ∙ sym (t .1) in
-    record {
-      same-world = ap (λ m. over film drawing amount m (d .trial)) places ∙ a .same-world;
-      in-order = record { heap = λ o. subst (InHeap o) e (a .in-order .heap o); board = subst (All On) e (a .in-order .board); idle = a .in-order .idle };
-      begun = a .begun;
-      steps = a .steps;
-      many = a .many;
-      run = subst (λ (xs : List Suspect). let st : State = record { begun = d .progress .begun; figures = d .trial .figures; queued = d .progress .queued; taken = d .progress .taken; waiting = xs } in Run (world film drawing amount c) (state c) (replicate (a .steps) Step) (replicate (a .steps) stepped) st) e (a .run) }
+      let e : waiting (d .suspects) ≡ waiting w = t .0 ∙ sym (t .1) in
+      record {
+        same-world = ap (λ m. over film drawing amount m (d .trial)) places ∙ a .same-world;
+        in-order = record { heap = λ o. subst (InHeap o) e (a .in-order .heap o); board = subst (All On) e (a .in-order .board); idle = a .in-order .idle };
+        begun = a .begun;
+        steps = a .steps;
+        many = a .many;
+        run = subst (λ (xs : List Suspect). let st : State = record { begun = d .progress .begun; figures = d .trial .figures; queued = d .progress .queued; taken = d .progress .taken; waiting = xs } in Run (world film drawing amount c) (state c) (replicate (a .steps) Step) (replicate (a .steps) stepped) st) e (a .run);
+      }
 
   pub finished : (ff : (a : A) → StoreFacts (film a)) (df : (b : B) → StoreFacts (drawing b)) (mf : (m : M) → MeasureLaws (amount m))
       → (c d : Comparison A B M) (n : ℕ) → Marching c n d → waiting (d .suspects) ≡ [] → Finished film drawing amount c n d
@@ -93,6 +95,7 @@ module _ {A B M : Type 0} (film : A → ℕ → ℕ → Answer) (drawing : B →
     run = a .run;
     nothing-waits = e;
     keeps = λ r.
-      let q = run-onward (world film drawing amount c) (r .run) (a .run) in
-      let l = law (world film drawing amount c) (facts film ff drawing df amount mf c) _ _ (state d) q in
-      (record { calls = _; outcomes = _; run = q }, l .lawful) }
+        let q = run-onward (world film drawing amount c) (r .run) (a .run) in
+        let l = law (world film drawing amount c) (facts film ff drawing df amount mf c) _ _ (state d) q in
+        (record { calls = _; outcomes = _; run = q }, l .lawful);
+  }

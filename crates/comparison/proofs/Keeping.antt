@@ -66,9 +66,9 @@ module _ (w : World) (fs : Facts w) where
   sizes-pos : (ss : List Suspect) → All (Entry w fs) ss → length ss ≤ sumBy (size w) ss
   sizes-pos [] h = omega arith
   sizes-pos (s ∷ ss) h =
-    let a = sizes-pos ss (h .1) in
-    let b = size-pos w (s .square .level) (s .square .number) (h .0 .1) in
-    omega (arith, sumBy-cons (size w) s ss)
+      let a = sizes-pos ss (h .1) in
+      let b = size-pos w (s .square .level) (s .square .number) (h .0 .1) in
+      omega (arith, sumBy-cons (size w) s ss)
 
   -- what every state that has begun keeps
   pub record Kept (st : State) : Type 0 where
@@ -87,20 +87,21 @@ module _ (w : World) (fs : Facts w) where
     where
       out : high st < dist w c e → (s : Suspect) → Entry w fs s × (s .key ≤ greatest-key (st .waiting)) → Outside c s
       out lt s h q = let b = key-bounds w fs (s .square .level) (s .square .number) (s .key) (s .partner) c e (film-code w fs c o) (h .0 .0) q near in omega (arith, h .1)
+
       go : (high st < dist w c e) ⊎ (dist w c e ≤ high st) → dist w c e ≤ high st
       go (inr h) = h
       go (inl lt) =
-        let a = all-weaker (λ s. Entry w fs s × (s .key ≤ greatest-key (st .waiting))) (Outside c) (out lt) (st .waiting)
-                (all-both (Entry w fs) (λ s. s .key ≤ greatest-key (st .waiting)) (st .waiting) (k .right) (keys-below (st .waiting) (greatest-key (st .waiting)) (omega arith))) in
-        let s = k .cover c e o near a in
-        omega (arith, s .0)
+          let a = all-weaker (λ s. Entry w fs s × (s .key ≤ greatest-key (st .waiting))) (Outside c) (out lt) (st .waiting)
+          (all-both (Entry w fs) (λ s. s .key ≤ greatest-key (st .waiting)) (st .waiting) (k .right) (keys-below (st .waiting) (greatest-key (st .waiting)) (omega arith))) in
+          let s = k .cover c e o near a in
+          omega (arith, s .0)
 
   -- where nothing waits, the figures are the distance
   pub finished : (st : State) → Kept st → st .waiting ≡ [] → Strayed w (st .figures .low) (st .figures .film) (st .figures .drawing)
   finished st k e =
-    strays-from w fs (st .figures .film) (st .figures .drawing) (k .shows .0) (k .shows .1)
-    (λ c x o near. let s = k .cover c x o near (subst (All (Outside c)) (sym e) tt) in let d = k .shows .2 in (omega (arith, s .0), λ i. s .1 (i ∙ sym d)))
-    (st .figures .low) (k .shows .2)
+      strays-from w fs (st .figures .film) (st .figures .drawing) (k .shows .0) (k .shows .1)
+      (λ c x o near. let s = k .cover c x o near (subst (All (Outside c)) (sym e) tt) in let d = k .shows .2 in (omega (arith, s .0), λ i. s .1 (i ∙ sym d)))
+      (st .figures .low) (k .shows .2)
 
   refuses : (st : State) (o : Said) (st' : State) → st .begun ≡ true → Results w st o st' → 0 < length (st .waiting) → o ≡ refused 17 (length (st .waiting))
   refuses st o st' b (results x e) h = absurd (omega (arith, ap length e))
@@ -117,35 +118,37 @@ module _ (w : World) (fs : Facts w) where
     distance = strays-exists w fs (st .figures .film) (st .figures .drawing) (k .shows .0) (k .shows .1 .held);
     shown = k .shows;
     low-bounds = λ d a b s.
-      let x = s .farthest (st .figures .film) (k .shows .0) in
-      let y = k .shows .1 .nearest (x .0) (x .1) in omega (arith, k .shows .2, x .2);
+        let x = s .farthest (st .figures .film) (k .shows .0) in
+        let y = k .shows .1 .nearest (x .0) (x .1) in omega (arith, k .shows .2, x .2);
     high-bounds = λ d a b s. let h = under-high st k a b (s .held) (s .partner) in omega (arith, s .amount);
     balanced = k .balanced;
     bounded = let h = sizes-pos (st .waiting) (k .right) in omega (arith, k .balanced, k .fits);
     waits = k .waits;
     finished = finished st k;
     refuses = λ o st' d h. refuses st o st' b d h;
-    answers = λ o st' d h. answers st o st' b d h }
+    answers = λ o st' d h. answers st o st' b d h;
+  }
 
   pub kept-begin : (st : State) (e : ℕ) → 0 < w .suspects → InDrawing w e → Opening w st → Kept st
   kept-begin st e h o b =
-    let lev : b .board .square .level ≡ 16 = ap (λ s. s .level) (b .whole) in
-    let num : b .board .square .number ≡ 0 = ap (λ s. s .number) (b .whole) in
-    let held : w .film (b .board .square .level) (b .board .square .number) ≡ Empty → ⊥ =
-          λ z. not-empty w fs 16 0 (st .figures .film) (omega arith) (b .first .held) (on-board w fs (st .figures .film) (b .first .held)) (sym (ap (λ s. w .film (s .level) (s .number)) (b .whole)) ∙ z) in
-    let whole : size w (b .board) ≡ squares-in w 16 0 = ap (λ s. squares-in w (s .level) (s .number)) (b .whole) in
-    let k = cell-key w fs (st .figures .film) (st .figures .low) (st .figures .drawing) e (film-code w fs (st .figures .film) (b .first .held)) (b .partner) o in
-    let one : length (st .waiting) ≡ 1 = ap length (b .waiting) in
-    let sizes : sumBy (size w) (st .waiting) ≡ squares-in w 16 0 + 0 = ap (sumBy (size w)) (b .waiting) ∙ sumBy-cons (size w) (b .board) [] ∙ ap (λ x. x + 0) whole in
-    record {
-      shows = (b .first .held, k .0, k .1);
-      cover = λ c e o near out.
-        let h : All (Outside c) (b .board ∷ []) = subst (All (Outside c)) (b .waiting) out in
-        absurd (h .0 (subst (λ s. c / 4 ^ s .level ≡ s .number) (sym (b .whole)) (on-board w fs c o)));
-      right = subst (All (Entry w fs)) (sym (b .waiting)) ((b .right, held, omega arith), tt);
-      balanced = omega (arith, b .queued, b .taken);
-      fits = omega (arith, b .taken);
-      waits = omega arith }
+      let lev : b .board .square .level ≡ 16 = ap (λ s. s .level) (b .whole) in
+      let num : b .board .square .number ≡ 0 = ap (λ s. s .number) (b .whole) in
+      let held : w .film (b .board .square .level) (b .board .square .number) ≡ Empty → ⊥ =
+      λ z. not-empty w fs 16 0 (st .figures .film) (omega arith) (b .first .held) (on-board w fs (st .figures .film) (b .first .held)) (sym (ap (λ s. w .film (s .level) (s .number)) (b .whole)) ∙ z) in
+      let whole : size w (b .board) ≡ squares-in w 16 0 = ap (λ s. squares-in w (s .level) (s .number)) (b .whole) in
+      let k = cell-key w fs (st .figures .film) (st .figures .low) (st .figures .drawing) e (film-code w fs (st .figures .film) (b .first .held)) (b .partner) o in
+      let one : length (st .waiting) ≡ 1 = ap length (b .waiting) in
+      let sizes : sumBy (size w) (st .waiting) ≡ squares-in w 16 0 + 0 = ap (sumBy (size w)) (b .waiting) ∙ sumBy-cons (size w) (b .board) [] ∙ ap (λ x. x + 0) whole in
+      record {
+        shows = (b .first .held, k .0, k .1);
+        cover = λ c e o near out.
+            let h : All (Outside c) (b .board ∷ []) = subst (All (Outside c)) (b .waiting) out in
+            absurd (h .0 (subst (λ s. c / 4 ^ s .level ≡ s .number) (sym (b .whole)) (on-board w fs c o)));
+        right = subst (All (Entry w fs)) (sym (b .waiting)) ((b .right, held, omega arith), tt);
+        balanced = omega (arith, b .queued, b .taken);
+        fits = omega (arith, b .taken);
+        waits = omega arith;
+      }
 
   module _ (st st' : State) (k : Kept st) (p : Advanced w st st') where
     both : All (Entry w fs) (p .taken-one ∷ p .rest)
@@ -156,19 +159,20 @@ module _ (w : World) (fs : Facts w) where
       where
         now-out : All (Outside c) (p .queued-now ++ p .rest)
         now-out = all-shuffled (Outside c) (st' .waiting) (p .queued-now ++ p .rest) (p .waiting) out
+
         go : (c / 4 ^ p .taken-one .square .level ≡ p .taken-one .square .number) ⊎ (c / 4 ^ p .taken-one .square .level ≡ p .taken-one .square .number → ⊥) → Settled (st' .figures) (dist w c e) c
         go (inl q) = covers w fs (p .taken-one) _ (st .figures) (p .handled) (both .0) c e o near (all-left (Outside c) (p .queued-now) (p .rest) now-out) q
         go (inr n) =
-          better w fs (p .taken-one) _ (st .figures) (p .handled) (dist w c e) c
-          (k .cover c e o near
+            better w fs (p .taken-one) _ (st .figures) (p .handled) (dist w c e) c
+            (k .cover c e o near
             (all-shuffled (Outside c) (p .taken-one ∷ p .rest) (st .waiting) (shuffled-sym (st .waiting) (p .taken-one ∷ p .rest) (p .split))
-              (n, all-right (Outside c) (p .queued-now) (p .rest) now-out)))
+            (n, all-right (Outside c) (p .queued-now) (p .rest) now-out)))
 
     -- all of what waits after the step, from all of what it queued and all of the rest
     after : (P : Suspect → Type 0) → All P (p .queued-now) → All P (p .rest) → All P (st' .waiting)
     after P a b =
-      all-shuffled P (p .queued-now ++ p .rest) (st' .waiting) (shuffled-sym (st' .waiting) (p .queued-now ++ p .rest) (p .waiting))
-      (all-append P (p .queued-now) (p .rest) a b)
+        all-shuffled P (p .queued-now ++ p .rest) (st' .waiting) (shuffled-sym (st' .waiting) (p .queued-now ++ p .rest) (p .waiting))
+        (all-append P (p .queued-now) (p .rest) a b)
 
     record Counts : Type 0 where
       before : length (st .waiting) ≡ 1 + length (p .rest)
@@ -189,7 +193,8 @@ module _ (w : World) (fs : Facts w) where
       fewer = smaller w fs (p .taken-one) _ (st .figures) (p .handled) (both .0);
       queued-pos = sizes-pos (p .queued-now) (entries w fs (p .taken-one) _ (st .figures) (p .handled) (both .0));
       rest-pos = sizes-pos (p .rest) (both .1);
-      few = size-most w 16 0 }
+      few = size-most w 16 0;
+    }
 
     pub step-kept : Kept st'
     step-kept = let n = counts in record {
@@ -198,15 +203,16 @@ module _ (w : World) (fs : Facts w) where
       right = after (Entry w fs) (entries w fs (p .taken-one) _ (st .figures) (p .handled) (both .0)) (both .1);
       balanced = omega (arith, n, k .balanced, k .fits, p .queued, p .taken);
       fits = omega (arith, n, k .balanced, k .fits, p .queued, p .taken);
-      waits = omega (arith, n, k .waits, in-room w fs (p .taken-one) _ (st .figures) (p .handled) (both .0)) }
+      waits = omega (arith, n, k .waits, in-room w fs (p .taken-one) _ (st .figures) (p .handled) (both .0));
+    }
 
     pub step-narrows : Narrows st st'
     step-narrows =
-      let now = all-shuffled (λ s. s .key ≤ high st) (st .waiting) (p .taken-one ∷ p .rest) (p .split) (keys-below (st .waiting) (high st) (omega arith)) in
-      let new = all-weaker (λ s. s .key ≤ p .taken-one .key) (λ s. s .key ≤ high st) (λ s h. omega (arith, now .0)) (p .queued-now) (keys w fs (p .taken-one) _ (st .figures) (p .handled) (both .0)) in
-      let g = greatest-below (st' .waiting) (high st) (after (λ s. s .key ≤ high st) new (now .1)) in
-      let b = low-bound w fs (p .taken-one) _ (st .figures) (p .handled) (both .0) (k .shows) (high st) (omega arith) (now .0) in
-      (low-rises w fs (p .taken-one) _ (st .figures) (p .handled), omega arith)
+        let now = all-shuffled (λ s. s .key ≤ high st) (st .waiting) (p .taken-one ∷ p .rest) (p .split) (keys-below (st .waiting) (high st) (omega arith)) in
+        let new = all-weaker (λ s. s .key ≤ p .taken-one .key) (λ s. s .key ≤ high st) (λ s h. omega (arith, now .0)) (p .queued-now) (keys w fs (p .taken-one) _ (st .figures) (p .handled) (both .0)) in
+        let g = greatest-below (st' .waiting) (high st) (after (λ s. s .key ≤ high st) new (now .1)) in
+        let b = low-bound w fs (p .taken-one) _ (st .figures) (p .handled) (both .0) (k .shows) (high st) (omega arith) (now .0) in
+        (low-rises w fs (p .taken-one) _ (st .figures) (p .handled), omega arith)
 
   module _ (st : State) (k : Kept st) (c : ℕ) (g : Figures) (t : Tried w (λ x. x ≡ c) (st .figures) g) where
     abbrev pub after-probe : State
@@ -219,12 +225,13 @@ module _ (w : World) (fs : Facts w) where
       right = k .right;
       balanced = k .balanced;
       fits = k .fits;
-      waits = k .waits }
+      waits = k .waits;
+    }
 
     pub probe-narrows : Narrows st after-probe
     probe-narrows =
-      let b = tried-bound w fs (λ x. x ≡ c) (st .figures) g t (high st) (k .shows) (omega arith) (λ x e q o near. under-high st k x e o near) in
-      (tried-low w fs (λ x. x ≡ c) (st .figures) g t, omega arith)
+        let b = tried-bound w fs (λ x. x ≡ c) (st .figures) g t (high st) (k .shows) (omega arith) (λ x e q o near. under-high st k x e o near) in
+        (tried-low w fs (λ x. x ≡ c) (st .figures) g t, omega arith)
 
   -- what one call does to a state: what is kept, whether what it says is so, and that it narrows the figures
   pub record Effect (st st' : State) (o : Said) : Type 0 where
@@ -245,20 +252,20 @@ module _ (w : World) (fs : Facts w) where
 
   step-effect : (st st' : State) (o : Said) → Steps w st o st' → (st .begun ≡ true → Kept st) → Effect st st' o
   step-effect st st' o (steps b p) k =
-    record { keeps = λ t. step-kept st st' (k b) p; says = tt; narrows = λ t n. (p .begun, step-narrows st st' (k b) p) }
+      record { keeps = λ t. step-kept st st' (k b) p; says = tt; narrows = λ t n. (p .begun, step-narrows st st' (k b) p) }
   step-effect st st' o (step-early h) k = left st o k (λ e. omega arith)
   step-effect st st' o (step-late h e) k = left st o k (λ e. omega arith)
 
   probe-effect : (st st' : State) (c : ℕ) (o : Said) → Probes w st c o st' → (st .begun ≡ true → Kept st) → Effect st st' o
   probe-effect st st' c o (probes {g = g} b h t) k =
-    record { keeps = λ x. probe-kept st (k b) c g t; says = tt; narrows = λ x n. (refl, probe-narrows st (k b) c g t) }
+      record { keeps = λ x. probe-kept st (k b) c g t; says = tt; narrows = λ x n. (refl, probe-narrows st (k b) c g t) }
   probe-effect st st' c o (not-held h) k = left st o k (λ e. omega arith)
   probe-effect st st' c o (probe-early h b) k = left st o k (λ e. omega arith)
 
   look-effect : (st st' : State) (o : Said) → Looks w st o st' → (st .begun ≡ true → Kept st) → Effect st st' o
   look-effect st st' o (looks b) k =
-    let s = sound st b (k b) in
-    left st o k ((λ d x y t. (s .low-bounds d x y t, s .high-bounds d x y t)), s .shown .0, s .shown .1, s .shown .2, s .balanced, s .bounded, s .waits)
+      let s = sound st b (k b) in
+      left st o k ((λ d x y t. (s .low-bounds d x y t, s .high-bounds d x y t)), s .shown .0, s .shown .1, s .shown .2, s .balanced, s .bounded, s .waits)
   look-effect st st' o (look-early b) k = left st o k (λ e. omega arith)
 
   result-effect : (st st' : State) (o : Said) → Results w st o st' → (st .begun ≡ true → Kept st) → Effect st st' o
@@ -284,15 +291,16 @@ module _ (w : World) (fs : Facts w) where
   pub run-narrows : {st st' : State} {cs : List Call} {os : List Said} → Run w st cs os st' → Goes-on os → st .begun ≡ true → Kept st → Narrows st st'
   run-narrows stop n b k = (omega arith, omega arith)
   run-narrows (next d r) n b k =
-    let e = effect _ _ _ _ d (λ x. k) in
-    let one = e .narrows b (n .0) in
-    let all = run-narrows r (n .1) (one .0) (e .keeps (one .0)) in
-    (omega (arith, one .1, all), omega (arith, one .1, all))
+      let e = effect _ _ _ _ d (λ x. k) in
+      let one = e .narrows b (n .0) in
+      let all = run-narrows r (n .1) (one .0) (e .keeps (one .0)) in
+      (omega (arith, one .1, all), omega (arith, one .1, all))
 
   lawful-from : (st : State) → (st .begun ≡ true → Kept st) → Lawful w st
   lawful-from st k = record {
     sound = λ b. sound st b (k b);
-    narrows = λ b cs os st' more n. run-narrows more n b (k b) }
+    narrows = λ b cs os st' more n. run-narrows more n b (k b);
+  }
 
   never : fresh .begun ≡ true → Kept fresh
   never t = absurd (both-ways false refl t)
@@ -300,15 +308,17 @@ module _ (w : World) (fs : Facts w) where
   pub law : (cs : List Call) (os : List Said) (st : State) → Run w fresh cs os st → Law w cs os st
   law cs os st run = record {
     says = run-says run never;
-    lawful = lawful-from st (run-keeps run never) }
+    lawful = lawful-from st (run-keeps run never);
+  }
 
   pub one-more : (st st' : State) (c : Call) (o : Said) → Does w st c o st' → Reached w st → Kept-by w o st'
   one-more st st' c o d r =
-    let e = effect st st' c o d (run-keeps (r .run) never) in
-    record {
-      reached = record { calls = r .calls ++ c ∷ []; outcomes = r .outcomes ++ o ∷ []; run = extended w c o (r .run) d };
-      says = e .says;
-      lawful = lawful-from st' (e .keeps) }
+      let e = effect st st' c o d (run-keeps (r .run) never) in
+      record {
+        reached = record { calls = r .calls ++ c ∷ []; outcomes = r .outcomes ++ o ∷ []; run = extended w c o (r .run) d };
+        says = e .says;
+        lawful = lawful-from st' (e .keeps);
+      }
 
 pub runs-keep-the-law : Runs-keep-the-law
 runs-keep-the-law w fs cs os st run = law w fs cs os st run

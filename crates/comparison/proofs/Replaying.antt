@@ -34,7 +34,8 @@ module _ {A B M : Type 0} (film : A → ℕ → ℕ → Answer) (drawing : B →
     same-world = b .same-world ∙ a .same-world;
     in-order = b .in-order;
     run = subst (λ ss. Run (world film drawing amount c) (state c) (calls ++ call ∷ []) ss (state e)) (sym (map-push said os o))
-      (extended (world film drawing amount c) call (said o) (a .run) (subst (λ w. Does w (state d) call (said o) (state e)) (a .same-world) (b .does))) }
+        (extended (world film drawing amount c) call (said o) (a .run) (subst (λ w. Does w (state d) call (said o) (state e)) (a .same-world) (b .does)));
+  }
 
   pub ran : (ff : (a : A) → StoreFacts (film a)) (df : (b : B) → StoreFacts (drawing b)) (mf : (m : M) → MeasureLaws (amount m))
       → (c d : Comparison A B M) (calls : List Call) (os : List Outcome) → Going c calls os d → Ran film drawing amount c calls os d
@@ -42,4 +43,5 @@ module _ {A B M : Type 0} (film : A → ℕ → ℕ → Answer) (drawing : B →
     same-world = a .same-world;
     in-order = a .in-order;
     run = a .run;
-    law = λ e. law (world film drawing amount c) (facts film ff drawing df amount mf c) calls (map said os) (state d) (subst (λ s. Run (world film drawing amount c) s calls (map said os) (state d)) e (a .run)) }
+    law = λ e. law (world film drawing amount c) (facts film ff drawing df amount mf c) calls (map said os) (state d) (subst (λ s. Run (world film drawing amount c) s calls (map said os) (state d)) e (a .run));
+  }

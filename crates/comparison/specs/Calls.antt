@@ -101,9 +101,9 @@ module _ (w : World) where
     dropped : (Improves f (s .key) (first-code (s .square)) → ⊥) → Handled s free f [] f
     settled : s .square .level ≡ 0 → Improves f (s .key) (first-code (s .square)) → Handled s free f [] (record { low = s .key; film = s .square .number; drawing = s .partner })
     opened : {es : List Suspect} (l : ℕ) → s .square .level ≡ l + 1 → Improves f (s .key) (first-code (s .square)) → parts ≤ free
-      → Picked f l (s .square .number) parts es → Handled s free f es f
+        → Picked f l (s .square .number) parts es → Handled s free f es f
     sunk : {g : Figures} → 0 < s .square .level → Improves f (s .key) (first-code (s .square)) → free < parts
-      → Tried (Inside (s .square .level) (s .square .number)) f g → Handled s free f [] g
+        → Tried (Inside (s .square .level) (s .square .number)) f g → Handled s free f [] g
 
   -- a step: it takes the first in order, handles it, and counts
   pub record Advanced (st st' : State) : Type 0 where
@@ -144,7 +144,7 @@ module _ (w : World) where
 
   pub data Probes (st : State) (c : ℕ) : Said → State → Type 0 where
     probes : {g : Figures} → st .begun ≡ true → InFilm w c → Tried (λ x. x ≡ c) (st .figures) g
-      → Probes st c probed (record { begun = true; figures = g; queued = st .queued; taken = st .taken; waiting = st .waiting })
+        → Probes st c probed (record { begun = true; figures = g; queued = st .queued; taken = st .taken; waiting = st .waiting })
     not-held : (InFilm w c → ⊥) → Probes st c (refused 15 0) st
     probe-early : InFilm w c → st .begun ≡ false → Probes st c (refused 16 0) st
 

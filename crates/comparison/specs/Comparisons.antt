@@ -42,7 +42,8 @@ module _ {A B M : Type 0} where
     figures = c .trial .figures;
     queued = c .progress .queued;
     taken = c .progress .taken;
-    waiting = waiting (c .suspects) }
+    waiting = waiting (c .suspects);
+  }
 
   -- what `new` gives and every call keeps: the suspects are squares of the board in heap order, and no neighbour waits
   pub record InOrder (c : Comparison A B M) : Type 0 where

@@ -31,10 +31,10 @@ pub record Runs-exist : Type 0 where
   pub facts : (places : ℕ) → Facts (films places)
   -- a step is refused before the begin; sixteen squares are opened, from the board down; the cell (1, 1), the last that is queued, is settled; the result is answered
   pub opened-and-settled : (st : State) × (st .queued ≡ 17) × (st .taken ≡ 17)
-    × Run (films 4) fresh (Step ∷ Begin ∷ (replicate 16 Step ++ (Step ∷ Result ∷ []))) (refused 16 0 ∷ begun ∷ (replicate 16 stepped ++ (stepped ∷ answered 2 3 0 ∷ []))) st
+      × Run (films 4) fresh (Step ∷ Begin ∷ (replicate 16 Step ++ (Step ∷ Result ∷ []))) (refused 16 0 ∷ begun ∷ (replicate 16 stepped ++ (stepped ∷ answered 2 3 0 ∷ []))) st
   -- with the cell (1, 1) waiting, a result is refused; the cell is probed, so that the step drops it; a cell that the film does not hold is refused
   pub probed-and-dropped : (st : State) × (st .queued ≡ 17) × (st .taken ≡ 17)
-    × Run (films 4) fresh (Begin ∷ (replicate 16 Step ++ (Result ∷ Probe corner ∷ Step ∷ Result ∷ Probe beside ∷ []))) (begun ∷ (replicate 16 stepped ++ (refused 17 1 ∷ probed ∷ stepped ∷ answered 2 3 0 ∷ refused 15 0 ∷ []))) st
+      × Run (films 4) fresh (Begin ∷ (replicate 16 Step ++ (Result ∷ Probe corner ∷ Step ∷ Result ∷ Probe beside ∷ []))) (begun ∷ (replicate 16 stepped ++ (refused 17 1 ∷ probed ∷ stepped ∷ answered 2 3 0 ∷ refused 15 0 ∷ []))) st
   -- with one place, the board is finished in depth; then nothing waits
   pub finished-in-depth : (st : State) × (st .queued ≡ 1) × (st .taken ≡ 1)
-    × Run (films 1) fresh (Begin ∷ Step ∷ Result ∷ Step ∷ []) (begun ∷ stepped ∷ answered 2 3 0 ∷ refused 16 0 ∷ []) st
+      × Run (films 1) fresh (Begin ∷ Step ∷ Result ∷ Step ∷ []) (begun ∷ stepped ∷ answered 2 3 0 ∷ refused 16 0 ∷ []) st

@@ -58,8 +58,8 @@ module _ (w : World) where
   True-of stepped = Unit {0}
   True-of probed = Unit {0}
   True-of (looked low high a b queued taken waiting) =
-    ((d x y : ℕ) → Strayed w d x y → (low ≤ d) × (d ≤ high)) × InFilm w a × NearestTo w a b × (low ≡ dist w a b)
-    × (queued ≡ taken + waiting) × (queued ≤ squares-in w top 0) × (waiting ≤ w .suspects)
+      ((d x y : ℕ) → Strayed w d x y → (low ≤ d) × (d ≤ high)) × InFilm w a × NearestTo w a b × (low ≡ dist w a b)
+      × (queued ≡ taken + waiting) × (queued ≤ squares-in w top 0) × (waiting ≤ w .suspects)
   True-of (answered d a b) = Strayed w d a b
   True-of (refused number place) = number ≡ 18 → ⊥
 

@@ -18,7 +18,8 @@ module _ {A B M : Type 0} (film : A → ℕ → ℕ → Answer) (drawing : B →
     drawing = drawing (t .drawing);
     measure = amount (t .measure);
     suspects = n;
-    neighbours = room (t .neighbours) }
+    neighbours = room (t .neighbours);
+  }
 
   -- the same stores, measure and places; no neighbour waits where none waited
   pub record Stays (u v : Trial A B M) : Type 0 where

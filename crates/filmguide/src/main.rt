@@ -66,7 +66,15 @@ fn run(rt: &LibcRuntime) -> Result<(), AnyError> {
     let commands = script(rt)?;
     let film = read_film_file(rt, heap, "a.cells")?;
     let drawing = read_film_file(rt, heap, "b.cells")?;
-    rt.print(guide(heap, film.as_slice(), drawing.as_slice(), setting, commands.as_slice())?)?;
+    rt.print(
+        guide(
+            heap,
+            film.as_slice(),
+            drawing.as_slice(),
+            setting,
+            commands.as_slice(),
+        )?,
+    )?;
     Ok(())
 }
 

@@ -80,7 +80,15 @@ fn case_with(heap: Global, setting: Setting) -> Case {
 fn finish(rt: &LibcRuntime, case: &Case) -> Result<(), AnyError> {
     let film = case.film.as_slice();
     let drawing = case.drawing.as_slice();
-    rt.print(guide(rt.alloc(), film, drawing, case.setting, case.commands.as_slice())?)?;
+    rt.print(
+        guide(
+            rt.alloc(),
+            film,
+            drawing,
+            case.setting,
+            case.commands.as_slice(),
+        )?,
+    )?;
     Ok(())
 }
 

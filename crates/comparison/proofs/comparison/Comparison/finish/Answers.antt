@@ -20,8 +20,8 @@ loop-s-again g c = λ b i.
 pub returns : need.returns
 returns g c = record {
   steps-to-the-end = λ i.
-    let a = c .loop-s .inv (c .if-not-self .left) i in
-    let t = c .in-rest .ensures tt .loses-first-or-none in
-    finished (g .A·Store .answers) (g .B·Store .answers) (g .M·Measure .amount) (g .A·Store .facts) (g .B·Store .facts) (g .M·Measure .laws) (c .args .self .now) _ (c .loop-s .steps)
-    (marching-rest (g .A·Store .answers) (g .B·Store .answers) (g .M·Measure .amount) (c .args .self .now) (c .loop-s .self) (c .loop-s .steps) (c .take .last .self) a (c .in-rest .ensures tt .same-room) t) (t .1);
+      let a = c .loop-s .inv (c .if-not-self .left) i in
+      let t = c .in-rest .ensures tt .loses-first-or-none in
+      finished (g .A·Store .answers) (g .B·Store .answers) (g .M·Measure .amount) (g .A·Store .facts) (g .B·Store .facts) (g .M·Measure .laws) (c .args .self .now) _ (c .loop-s .steps)
+      (marching-rest (g .A·Store .answers) (g .B·Store .answers) (g .M·Measure .amount) (c .args .self .now) (c .loop-s .self) (c .loop-s .steps) (c .take .last .self) a (c .in-rest .ensures tt .same-room) t) (t .1);
 }

@@ -23,6 +23,6 @@ returns g c =
     let e = c .code .ensures .value in
     record {
       by-the-rule = λ i. did-probe (g .A·Store .answers) (g .A·Store .facts) (g .B·Store .answers) (g .B·Store .facts) (g .M·Measure .amount) (g .M·Measure .laws) v (c .try-cell .last .self) (c .args .cell) i (c .if-not-self .left) held (c .try-cell .ensures .stays)
-        (subst (λ x. Tried (world (g .A·Store .answers) (g .B·Store .answers) (g .M·Measure .amount) v) (λ y. y ≡ x) (v .trial .figures) (c .try-cell .last .self .figures)) e
+          (subst (λ x. Tried (world (g .A·Store .answers) (g .B·Store .answers) (g .M·Measure .amount) v) (λ y. y ≡ x) (v .trial .figures) (c .try-cell .last .self .figures)) e
           (c .try-cell .ensures .tried (room (v .suspects)) (subst (λ x. InFilm (world (g .A·Store .answers) (g .B·Store .answers) (g .M·Measure .amount) v) x) (sym e) held)));
     }

@@ -28,7 +28,7 @@ loop-call-again g c = λ i.
 pub returns : need.returns
 returns g c = record {
   by-the-rules = λ i.
-    let u = c .args .self .now in
-    ran (g .A·Store .answers) (g .B·Store .answers) (g .M·Measure .amount) (g .A·Store .facts) (g .B·Store .facts) (g .M·Measure .laws) u (c .loop-call .self) (c .args .calls .now) (vec-items (c .loop-call .outcomes))
-    (subst (λ cs. Going (g .A·Store .answers) (g .B·Store .answers) (g .M·Measure .amount) u cs (vec-items (c .loop-call .outcomes)) (c .loop-call .self)) (take-all (c .loop-call .call-index) (c .args .calls .now) (c .loop-call-test .left)) (c .loop-call .inv i));
+      let u = c .args .self .now in
+      ran (g .A·Store .answers) (g .B·Store .answers) (g .M·Measure .amount) (g .A·Store .facts) (g .B·Store .facts) (g .M·Measure .laws) u (c .loop-call .self) (c .args .calls .now) (vec-items (c .loop-call .outcomes))
+      (subst (λ cs. Going (g .A·Store .answers) (g .B·Store .answers) (g .M·Measure .amount) u cs (vec-items (c .loop-call .outcomes)) (c .loop-call .self)) (take-all (c .loop-call .call-index) (c .args .calls .now) (c .loop-call-test .left)) (c .loop-call .inv i));
 }

@@ -20,7 +20,7 @@ returns-then-s-gt0 g c =
       same-floor = refl;
       stops-at-floor = λ e. c .if-s-gt0 .taken;
       met = λ r. meets-square (g .A·Store .answers) (g .B·Store .answers) (g .M·Measure .amount) v s (c .is-empty .result) (g .A·Store .facts (v .film)) (r .board .0)
-        (λ e. sym a ∙ d .0 e, λ e. d .1 (a ∙ e));
+          (λ e. sym a ∙ d .0 e, λ e. d .1 (a ∙ e));
     }
 
 pub returns-then-not-counts : need.returns-then-not-counts
@@ -42,7 +42,7 @@ returns-then-not-holds g c =
       same-floor = refl;
       stops-at-floor = λ e. absurd (false≢true e);
       met = λ r. meets-other (g .A·Store .answers) (g .B·Store .answers) (g .M·Measure .amount) v s (c .if-s-gt0 .left)
-        (λ i. false≢true (c .if-not-holds .ensures tt .by-code .1 (subst (Inside (v .square .level) (v .square .number)) (sym back) i)));
+          (λ i. false≢true (c .if-not-holds .ensures tt .by-code .1 (subst (Inside (v .square .level) (v .square .number)) (sym back) i)));
     }
 
 pub returns : need.returns
