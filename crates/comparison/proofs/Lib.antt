@@ -1,0 +1,12 @@
+pub mod Ranked
+pub mod Keying
+pub mod Existing
+pub mod Handling
+pub mod Keeping
+pub mod Diving
+pub mod Advancing
+pub mod Calling
+pub mod Replaying
+pub mod Finishing
+pub mod Choosing
+pub mod Exemplary

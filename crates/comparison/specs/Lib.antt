@@ -1,0 +1,9 @@
+pub mod World
+pub mod Suspects
+pub mod Faults
+pub mod Calls
+pub mod Law
+pub mod Trials
+pub mod Examples
+pub mod Comparisons
+pub mod Advances
