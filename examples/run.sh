@@ -1,8 +1,8 @@
 #!/bin/sh
-# Runs filmdist on two films: sh examples/run.sh FILM DRAWING
-# filmdist reads a.cells and b.cells in the folder that it is started in, so both are laid into a new one.
+# Runs filmdist, or another program, on two films: sh examples/run.sh FILM DRAWING [PROGRAM]
+# The program reads a.cells and b.cells in the folder that it is started in, so both are laid into a new one.
 set -eu
-program="$(pwd)/target/bin/filmdist"
+program="$(pwd)/target/bin/${3:-filmdist}"
 folder="$(mktemp -d)"
 trap 'rm -rf "$folder"' EXIT
 lay() {

@@ -41,7 +41,7 @@ pub struct Trial<'a, A, B, M> {
 }
 
 // Whether the square holds no cell.
-pub fn is_empty(answer: Answer) -> bool
+pub(crate) fn is_empty(answer: Answer) -> bool
     ensures decides { λ r. ⌜ Decides r (answer ≡ empty-answer) ⌝ }
 {
     match answer {
@@ -52,42 +52,42 @@ pub fn is_empty(answer: Answer) -> bool
 
 impl<'a, A: Store, B: Store, M: Measure> Trial<'a, A, B, M> {
     // How many places the list of neighbours has.
-    pub fn neighbour_places(&self) -> usize
+    pub(crate) fn neighbour_places(&self) -> usize
         ensures all_places { λ r. ⌜ r ≡ room (now (self .entry) .neighbours) ⌝ }
     {
         self.neighbours.capacity()
     }
 
     // Whether A calls a square empty.
-    pub fn film_empty_at(&self, s: Square) -> bool
+    pub(crate) fn film_empty_at(&self, s: Square) -> bool
         ensures decides { λ r. ⌜ Decides r (A·Store .answers (now (self .entry) .film) (s .level) (s .number) ≡ empty-answer) ⌝ }
     {
         is_empty(self.film.query(s))
     }
 
     // Whether A holds a cell.
-    pub fn film_holds(&self, cell: Cell) -> bool
+    pub(crate) fn film_holds(&self, cell: Cell) -> bool
         ensures decides { λ r. ⌜ Decides r (Holds (A·Store .answers (now (self .entry) .film)) (code-of cell)) ⌝ }
     {
         holds(&self.film, cell)
     }
 
     // The first cell of A.
-    pub fn first_of_film(&self) -> Option<Cell>
+    pub(crate) fn first_of_film(&self) -> Option<Cell>
         ensures first_or_none { λ r. ⌜ BySome r (NoneHeld (A·Store .answers (now (self .entry) .film))) (λ c. FirstHeld (A·Store .answers (now (self .entry) .film)) (code-of c)) ⌝ }
     {
         first_cell(&self.film)
     }
 
     // The first cell of B.
-    pub fn first_of_drawing(&self) -> Option<Cell>
+    pub(crate) fn first_of_drawing(&self) -> Option<Cell>
         ensures first_or_none { λ r. ⌜ BySome r (NoneHeld (B·Store .answers (now (self .entry) .drawing))) (λ c. FirstHeld (B·Store .answers (now (self .entry) .drawing)) (code-of c)) ⌝ }
     {
         first_cell(&self.drawing)
     }
 
     // The key and the partner of a square.
-    pub fn key_of(&mut self, s: Square) -> (Amount, u32)
+    pub(crate) fn key_of(&mut self, s: Square) -> (Amount, u32)
         ensures keyed { λ r. ⌜ Keyed (M·Measure .amount (now (self .entry) .measure)) (B·Store .answers (now (self .entry) .drawing)) (s .level) (s .number) (r .0) (r .1) ⌝ }
         ensures stays { λ _. ⌜ Stays (A·Store .answers) (B·Store .answers) (M·Measure .amount) (now (self .entry)) (now (self .exit)) ⌝ }
         ensures same_square { λ _. ⌜ now (self .exit) .square ≡ now (self .entry) .square ⌝ }
@@ -97,7 +97,7 @@ impl<'a, A: Store, B: Store, M: Measure> Trial<'a, A, B, M> {
     }
 
     // Tries the cell with this code.
-    pub fn try_cell(&mut self, code: u32)
+    pub(crate) fn try_cell(&mut self, code: u32)
         ensures stays { λ _. ⌜ Stays (A·Store .answers) (B·Store .answers) (M·Measure .amount) (now (self .entry)) (now (self .exit)) ⌝ }
         ensures same_square { λ _. ⌜ now (self .exit) .square ≡ now (self .entry) .square ⌝ }
         ensures tried { λ _. ⌜ ((n : ℕ) → InFilm (over (A·Store .answers) (B·Store .answers) (M·Measure .amount) n (now (self .entry))) code → Tried (over (A·Store .answers) (B·Store .answers) (M·Measure .amount) n (now (self .entry))) (λ x. x ≡ code) (now (self .entry) .figures) (now (self .exit) .figures)) ⌝ }
@@ -117,7 +117,7 @@ impl<'a, A: Store, B: Store, M: Measure> Trial<'a, A, B, M> {
     }
 
     // Tries the cells of a square of the board, in depth.
-    pub fn try_square(&mut self, s: Square)
+    pub(crate) fn try_square(&mut self, s: Square)
         ensures stays { λ _. ⌜ (OnBoard (s .level) (s .number) → Stays (A·Store .answers) (B·Store .answers) (M·Measure .amount) (now (self .entry)) (now (self .exit))) ⌝ }
         ensures tried { λ _. ⌜ (OnBoard (s .level) (s .number) → (n : ℕ) → Tried (over (A·Store .answers) (B·Store .answers) (M·Measure .amount) n (now (self .entry))) (Inside (s .level) (s .number)) (now (self .entry) .figures) (now (self .exit) .figures)) ⌝ }
     {

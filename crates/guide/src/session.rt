@@ -1,51 +1,13 @@
 // The answers to a script: one line for each call.
+use crate::answer::answer_line;
+use crate::answer::ran_line;
 use crate::script::Command;
 use board::measure::Measure;
-use board::refusal::Refusal;
 use comparison::call::Call;
-use comparison::call::Outcome;
 use comparison::comparison::Comparison;
-use comparison::fault::Fault;
-use comparison::fault::FaultRefusal as _;
 use std::alloc::AllocError;
 use std::alloc::Global;
 use store::store::Store;
-
-fn refusal(heap: Global, fault: Fault) -> Result<String, AllocError> {
-    let number = fault.number();
-    let place = fault.place();
-    format!(heap, "refused {number} {place}\n")
-}
-
-// The line for an outcome.
-pub fn answer(heap: Global, outcome: Outcome) -> Result<String, AllocError> {
-    match outcome {
-        Outcome::Begun => String::from_str(heap, "begun\n"),
-        Outcome::Stepped => String::from_str(heap, "stepped\n"),
-        Outcome::Probed => String::from_str(heap, "probed\n"),
-        Outcome::Looked(s) => {
-            let low = s.low;
-            let high = s.high;
-            let queued = s.queued;
-            let taken = s.taken;
-            let waiting = s.waiting;
-            let a = s.film;
-            let b = s.drawing;
-            format!(
-                heap,
-                "look {low} {high} {} {} {} {} {queued} {taken} {waiting}\n",
-                a.x, a.y, b.x, b.y
-            )
-        }
-        Outcome::Answered(f) => {
-            let distance = f.distance;
-            let a = f.film;
-            let b = f.drawing;
-            format!(heap, "result {distance} {} {} {} {}\n", a.x, a.y, b.x, b.y)
-        }
-        Outcome::Refused(fault) => refusal(heap, fault),
-    }
-}
 
 // Makes one call, and writes its answer behind the text.
 fn make_call<A: Store, B: Store, M: Measure>(
@@ -56,7 +18,7 @@ fn make_call<A: Store, B: Store, M: Measure>(
 ) -> Result<(), AllocError> {
     let outcomes = comparison.replay(heap, &[call])?;
     for outcome in outcomes.as_slice() {
-        let line = answer(heap, *outcome)?;
+        let line = answer_line(heap, *outcome)?;
         text.push_str(line.as_str())?;
     }
     Ok(())
@@ -81,10 +43,7 @@ fn make_run<A: Store, B: Store, M: Measure>(
     comparison: &mut Comparison<A, B, M>,
     text: &mut String,
 ) -> Result<(), AllocError> {
-    let line = match comparison.finish() {
-        Ok(steps) => format!(heap, "ran {steps}\n")?,
-        Err(fault) => refusal(heap, fault)?,
-    };
+    let line = ran_line(heap, comparison.finish())?;
     text.push_str(line.as_str())
 }
 
