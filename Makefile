@@ -29,5 +29,5 @@ guide:
 	@sh examples/run.sh "$(or $(A),examples/scratched.cells)" "$(or $(B),examples/drawing.cells)" filmguide < "$(SCRIPT)"
 
 test:
-	@echo "make test: the whole gate, from nothing; it prints a line for each step, and how long that took" >&2
+	@echo "make test: the whole gate, from nothing, which takes the better part of an hour; each step prints a line with its time" >&2
 	@bash .ci/run
