@@ -5,7 +5,7 @@ use Rattle.board.specs.Morton.{x_of, y_of}
 use Rattle.board.specs.Spans.{first, last, least, greatest, gap}
 use Rattle.board.specs.Measures.{MeasureLaws}
 use Rattle.board.specs.Distances.{distance, between, near, far, Bounds}
-use Rattle.board.proofs.Codes.{x_outer, y_outer, x_lt, y_lt}
+use Rattle.board.specs.CodeLaws.Codes.{x_outer, y_outer, x_lt, y_lt}
 
 -- ---- along one axis
 

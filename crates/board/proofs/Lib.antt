@@ -1,11 +1,7 @@
-pub mod Words
 pub mod Tables
-pub mod Digits
 pub mod Masks
-pub mod Codes
 pub mod Blocks
 pub mod Bounded
 pub mod Cuts
-pub mod Ordered
 pub mod Boards
 pub mod Straying

@@ -2,8 +2,7 @@
 ghost use Rattle.std.specs.Prelude.{◌≡◌, IsSomeAnd, Some, refl};
 ghost use Rattle.board.specs.CellOrder.{by_code, CellOrderIsCodeOrder};
 ghost use Rattle.board.specs.Morton.{evens, spaced, x_of, y_of, code as coded, Interleaved, CodesAreExact};
-ghost use Rattle.std.specs.Cmp.Rules.{comparing};
-ghost use Rattle.std.proofs.Common.{rules};
+ghost use Rattle.board.specs.CodeLaws.Ordered.{total as cells_total, ties as cells_tie};
 ghost use Rattle.std.specs.Cmp.{partial_order_from_agreeing_total};
 
 use std::cmp::Ordering;
@@ -41,7 +40,7 @@ impl Cell {
 impl PartialOrd for Cell {
     ghost partial_cmp = { λ x y. Some (by_code x y) };
 
-    ghost laws = { partial_order_from_agreeing_total (λ x y. by_code x y) (Prim.search (comparing, rules)) (λ _ _. refl) (Prim.search (comparing, rules)) };
+    ghost laws = { partial_order_from_agreeing_total by_code cells_total (λ _ _. refl) cells_tie };
 
     fn partial_cmp(&self, other: &Cell) -> Option<Ordering> {
         Some(self.cmp(other))
@@ -49,13 +48,13 @@ impl PartialOrd for Cell {
 }
 
 impl Ord for Cell {
-    ghost cmp = { λ x y. by_code x y };
+    ghost cmp = { by_code };
 
-    ghost total = { Prim.search (comparing, rules) };
+    ghost total = { cells_total };
 
-    ghost matches_partial_cmp = { Prim.search (comparing, rules) };
+    ghost matches_partial_cmp = { λ _ _. refl };
 
-    ghost matches_eq = { Prim.search (comparing, rules) };
+    ghost matches_eq = { cells_tie };
 
     fn cmp(&self, other: &Cell) -> Ordering {
         let code = self.code();

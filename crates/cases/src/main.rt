@@ -1,4 +1,6 @@
 // The worked cases, executed: films of (1,1), (6,2) and (1,2), (3,6), and small lists that are refused.
+#![tactic(auto)]
+
 use board::cell::Cell;
 use board::finding::Finding;
 use board::list::check_list;

@@ -1,4 +1,6 @@
 // The guided search: a comparison that goes step by step, with a low and a high figure at any moment.
+#![tactic(auto)]
+
 pub mod call;
 pub mod comparison;
 pub mod fault;

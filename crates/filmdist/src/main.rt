@@ -1,4 +1,6 @@
 // filmdist: how far the film in a.cells strays from the drawing in b.cells, as one line.
+#![tactic(auto)]
+
 use board::measure::Squared;
 use job::files::read_film_file;
 use job::line::film_line;

@@ -1,4 +1,6 @@
 // filmguide: the film in a.cells against the drawing in b.cells, by a script from standard input.
+#![tactic(auto)]
+
 use anyhow::anyhow;
 use guide::films::{Kind, Setting, guide, kind_named};
 use guide::script::{Command, Line, read_line};

@@ -1,4 +1,6 @@
 // A comparison by script: how an operator works step by step, and how a log is replayed.
+#![tactic(auto)]
+
 pub mod answer;
 pub mod films;
 pub mod script;

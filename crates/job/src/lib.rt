@@ -1,4 +1,6 @@
 // The whole job: two films as bytes in, one line out.
+#![tactic(auto)]
+
 pub mod failure;
 pub mod fault;
 pub mod files;

@@ -1,5 +1,7 @@
 // Piles of stores, shown square by square on the eight by eight cells of the southwest corner:
 // what each store answers, and how many cells of the square it holds when its cells are asked one by one.
+#![tactic(auto)]
+
 ghost use Rattle.std.specs.Prelude.{◌⊎◌};
 ghost use Rattle.board.specs.Lists.{Has};
 ghost use Rattle.store.specs.Eithers.{joined};

@@ -1,4 +1,6 @@
 // Stores: what is known of a set of cells, square by square.
+#![tactic(auto)]
+
 pub mod either;
 pub mod list;
 pub mod rectangle;

@@ -1,4 +1,6 @@
 // A store of a buyer's own, worked as an example: a film of stripes, one on every column whose number is a multiple of the pitch.
+#![tactic(auto)]
+
 ghost use Rattle.std.specs.Prelude.{◌≡◌, ◌<◌, IfSome, MatchOption};
 ghost use Rattle.store.specs.Exact.{Exactly, HoldsSet};
 ghost use Rattle.stripes.specs.PatternFacts.{striped_facts};

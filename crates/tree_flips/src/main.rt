@@ -1,4 +1,6 @@
 // Writes, opens and reads back sets of cells at every height, and flips each bit of their bitmaps: each flip is refused or gives another set.
+#![tactic(auto)]
+
 mod random;
 mod trial;
 

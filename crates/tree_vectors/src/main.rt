@@ -1,5 +1,7 @@
 // Runs cases from outside: a line has the arguments of a writing or of an opening, and what comes of it is printed.
 // A buffer that is written holds a5 in each byte before; what is shown of it is what was written, and two bytes behind.
+#![tactic(auto)]
+
 mod cells;
 mod text;
 

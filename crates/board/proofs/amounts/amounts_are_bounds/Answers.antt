@@ -2,4 +2,4 @@ use Rattle.board.proofs.Bounded.{bounds}
 use Rattle.board.proofs.amounts.amounts_are_bounds.Goals as goal
 
 pub returns : goal.returns
-returns g c = record { bounds = bounds (g.M.Measure.amount c.args.-m.now) (g.M.Measure.laws c.args.-m.now) }
+returns g c = record { bounds = bounds (g.M.Measure.amount c.args._m.now) (g.M.Measure.laws c.args._m.now) }

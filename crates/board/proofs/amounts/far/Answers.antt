@@ -15,5 +15,5 @@ returns g c =
     record {
       limited = omega (arith, laws.limited c.greatest-dx.result c.greatest-dy.result (omega arith) (omega arith));
       value = e;
-      no-cells-farther = λ p q h k i j. rw (e, ← i, ← j) ((bounds f laws).far_cells a.level b.level p q h k);
+      no_cells_farther = λ p q h k i j. rw (e, ← i, ← j) ((bounds f laws).far_cells a.level b.level p q h k);
     }

@@ -15,5 +15,5 @@ returns g c =
     record {
       limited = omega (arith, laws.limited c.least-dx.result c.least-dy.result (omega arith) (omega arith));
       value = e;
-      no-cells-nearer = λ p q h k i j. rw (e, ← i, ← j) ((bounds f laws).near_cells a.level b.level p q h k);
+      no_cells_nearer = λ p q h k i j. rw (e, ← i, ← j) ((bounds f laws).near_cells a.level b.level p q h k);
     }

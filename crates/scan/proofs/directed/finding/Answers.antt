@@ -12,9 +12,9 @@ returns g c =
     let f = g.M.Measure.amount m in
     let p = c.in-Some.pair in
     let s = c.in-Some.ensures in
-    let film : code_of c.from-code.result ≡ p.film = coded p.film c.from-code.result c.from-code.ensures.column c.from-code.ensures.row in
-    let drawing : code_of c.from-code-in-Some.result ≡ p.drawing =
-    coded p.drawing c.from-code-in-Some.result c.from-code-in-Some.ensures.column c.from-code-in-Some.ensures.row in
+    let film : code_of c.from_code.result ≡ p.film = coded p.film c.from_code.result c.from_code.ensures.column c.from_code.ensures.row in
+    let drawing : code_of c.from_code-in-Some.result ≡ p.drawing =
+    coded p.drawing c.from_code-in-Some.result c.from_code-in-Some.ensures.column c.from_code-in-Some.ensures.row in
     let e = s.amount in
     let most-of : distance f p.film p.drawing ≤ most = (bounds f (g.M.Measure.laws m)).cell_limited p.film p.drawing (omega arith) (omega arith) in
     record { found = rw (film, drawing) s; limited = omega arith }

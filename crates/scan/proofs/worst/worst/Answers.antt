@@ -18,11 +18,11 @@ film-preserved-then-within g c =
     let a = c.args.a.now in
     let b = c.args.b.now in
     let i = c.film.code-index in
-    let q = c.met-at-drawing.result in
-    let start = c.place-of-start.result in
-    let held : Has b q = rw c.met-at-drawing.ensures (round-has b start c.loop-i.i c.place-of-start.ensures c.loop-i-test.true) in
-    let e = by_codes f (get_or a i 0) q _ c.from-code-cell.result c.from-code.result
-    c.from-code-cell.ensures.column c.from-code-cell.ensures.row c.from-code.ensures.column c.from-code.ensures.row c.distance-d.ensures.value in
+    let q = c.met_at-drawing.result in
+    let start = c.place_of-start.result in
+    let held : Has b q = rw c.met_at-drawing.ensures (round-has b start c.loop-i.i c.place_of-start.ensures c.loop-i-test.true) in
+    let e = by_codes f (get_or a i 0) q _ c.from_code-cell.result c.from_code.result
+    c.from_code-cell.ensures.column c.from_code-cell.ensures.row c.from_code.ensures.column c.from_code.ensures.row c.distance-d.ensures.value in
     low_kept (distance f) a b i c.distance-d.result q c.film.low c.requires.rising c.film-test.true held
     c.film.invariant (c.within.ensures.0 c.if-within.true) e
 
@@ -31,14 +31,14 @@ loop-i-preserved g c =
     let f = g.M.Measure.amount c.args.m.now in
     let b = c.args.b.now in
     let film = get_or c.args.a.now c.film.code-index 0 in
-    let at = round b c.place-of-start.result in
+    let at = round b c.place_of-start.result in
     let i = c.loop-i.i in
     let d = c.distance-d.result in
-    let q = c.met-at-drawing.result in
-    let met : q ≡ at i = c.met-at-drawing.ensures in
+    let q = c.met_at-drawing.result in
+    let met : q ≡ at i = c.met_at-drawing.ensures in
     let e : d ≡ distance f film (at i) =
-    by_codes f film q d c.from-code-cell.result c.from-code.result
-    c.from-code-cell.ensures.column c.from-code-cell.ensures.row c.from-code.ensures.column c.from-code.ensures.row c.distance-d.ensures.value
+    by_codes f film q d c.from_code-cell.result c.from_code.result
+    c.from_code-cell.ensures.column c.from_code-cell.ensures.row c.from_code.ensures.column c.from_code.ensures.row c.distance-d.ensures.value
     ∙ ap (distance f film) met in (
       elim c.if-nearer.branch [
         | then-nearer w ↦ subst (Nearby (distance f) at film (i + 1)) (sym w.best-is)
@@ -56,9 +56,9 @@ film-preserved g c =
     let a = c.args.a.now in
     let b = c.args.b.now in
     let film = get_or a c.film.code-index 0 in
-    let start = c.place-of-start.result in
+    let start = c.place_of-start.result in
     let all : c.loop-i.i ≡ length b = omega arith in
     low_taken (distance f) a b (round b start) c.film.code-index c.film.low c.loop-i.best
-    (met_has b start c.place-of-start.ensures) (has_met b start c.place-of-start.ensures) c.film.invariant
+    (met_has b start c.place_of-start.ensures) (has_met b start c.place_of-start.ensures) c.film.invariant
     (subst (λ j. Nearby (distance f) (round b start) film j c.loop-i.best) all c.loop-i.invariant.0)
     (subst (λ j. Past (distance f) (round b start) film j c.film.low) all c.loop-i.invariant.1)

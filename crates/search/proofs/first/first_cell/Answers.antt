@@ -1,7 +1,7 @@
 use Rattle.std.proofs.Common.{◌≡◌, None, sym, refl, ◌∙◌, subst, ap₂, arith}
 use Rattle.board.specs.Findings.{code_of}
 use Rattle.board.specs.Morton.{code}
-use Rattle.board.proofs.Codes.{codes_are_exact}
+use Rattle.board.specs.CodeLaws.Codes.{codes_are_exact}
 use Rattle.search.specs.declared.first.Scout.{Scout}
 use Rattle.search.specs.Firsts.{FirstHeld, FoundFirst, Searched}
 use Rattle.search.proofs.Counting.{counted_under}
@@ -28,6 +28,6 @@ returns-in-Some g c =
     let met = c.walk.ensures.all_done record { board = (omega arith, omega arith); above = omega arith; in_order = λ q i b. absurd (omega arith) } in
     let m = met.later.from h (refl, λ f. f) in
     let n = c.in-Some.code in
-    let cell = c.from-code.result in
-    let back : code_of cell ≡ n = ap₂ code c.from-code.ensures.column c.from-code.ensures.row ∙ codes_are_exact.back n in
+    let cell = c.from_code.result in
+    let back : code_of cell ≡ n = ap₂ code c.from_code.ensures.column c.from_code.ensures.row ∙ codes_are_exact.back n in
     record { first_or_none = subst (FirstHeld t) (sym back) (subst (FoundFirst t) c.in-Some.is (m.1 tt)) }

@@ -28,11 +28,11 @@ returns-then-of-gt-TOP g c =
     record {
       keyed = k;
       limited = laws.limited l n x 0 k;
-      no-cell-farther = laws.bounds l n x 0 k;
-      no-quarter-farther = laws.falls l n x 0 k;
-      cell-and-its-nearest = laws.of_cell l n x 0 k;
-      neighbours-empty = c.clear.ensures.nothing_waits;
-      same-room = c.clear.ensures.same-room;
+      no_cell_farther = laws.bounds l n x 0 k;
+      no_quarter_farther = laws.falls l n x 0 k;
+      cell_and_its_nearest = laws.of_cell l n x 0 k;
+      neighbours_empty = c.clear.ensures.nothing_waits;
+      same_room = c.clear.ensures.same_room;
     }
 
 pub loop-next-init : goal.loop-next-init
@@ -49,7 +49,7 @@ loop-next-init g c =
 pub loop-next-smaller-then-beyond : goal.loop-next-smaller-then-beyond
 loop-next-smaller-then-beyond g c =
     let u = c.offer.new.hunt in
-    lighter_cleared u.aim.of.level (near_to g.B.Store.answers g.M.Measure.amount u.aim) c.in-Some.next c.loop-next.neighbours c.take.new.self c.clear-then-beyond.new.self c.in-Some.ensures.loses-first-or-none c.clear-then-beyond.ensures.nothing_waits
+    lighter_cleared u.aim.of.level (near_to g.B.Store.answers g.M.Measure.amount u.aim) c.in-Some.next c.loop-next.neighbours c.take.new.self c.clear-then-beyond.new.self c.in-Some.ensures.loses_first_or_none c.clear-then-beyond.ensures.nothing_waits
 
 pub loop-next-preserved-then-beyond : goal.loop-next-preserved-then-beyond
 loop-next-preserved-then-beyond g c =
@@ -62,10 +62,10 @@ loop-next-preserved-then-beyond g c =
     let f = M a.measure.now in
     let w' = c.clear-then-beyond.new.self in
     let h : Waits a.of.level (near_to B M a) (done B M v) c.loop-next.neighbours = subst (λ x. Waits x.of.level (near_to B M x) (done B M v) c.loop-next.neighbours) (sym m.0) c.loop-next.invariant.1 in
-    let k = waits_cleared f (bounds f (g.M.Measure.laws a.measure.now)) a.of.level a.of.number (B a.store.now a.of.level) v.best c.in-Some.next c.loop-next.neighbours c.take.new.self w' h c.in-Some.ensures.loses-first-or-none c.if-beyond.ensures c.clear-then-beyond.ensures.nothing_waits c.clear-then-beyond.ensures.in_order in (
+    let k = waits_cleared f (bounds f (g.M.Measure.laws a.measure.now)) a.of.level a.of.number (B a.store.now a.of.level) v.best c.in-Some.next c.loop-next.neighbours c.take.new.self w' h c.in-Some.ensures.loses_first_or_none c.if-beyond.ensures c.clear-then-beyond.ensures.nothing_waits c.clear-then-beyond.ensures.in_order in (
       c.loop-next.invariant.0,
       subst (λ x. Waits x.of.level (near_to B M x) (done B M v) w') m.0 k,
-      c.clear-then-beyond.ensures.same-room ∙ c.take.ensures.same-room ∙ c.loop-next.invariant.2,
+      c.clear-then-beyond.ensures.same_room ∙ c.take.ensures.same_room ∙ c.loop-next.invariant.2,
     )
 
 pub spread-requires : goal.spread-requires
@@ -75,7 +75,7 @@ spread-requires g c =
     let l = u.aim.of.level in
     let near = near_to g.B.Store.answers g.M.Measure.amount u.aim in
     let m = c.loop-next.invariant.0.from u (refl, λ f. f) in
-    let t = c.in-Some.ensures.loses-first-or-none in
+    let t = c.in-Some.ensures.loses_first_or_none in
     let e = (all_shuffled (Entry l near) (waiting c.loop-next.neighbours) (x ∷ waiting c.take.new.self) t.0 c.loop-next.invariant.1.entries).0 in
     record { board = e.board; above = subst (λ a. a.of.level < x.square.level) (sym m.0) e.above }
 
@@ -87,7 +87,7 @@ loop-next-smaller g c =
     let D = done g.B.Store.answers g.M.Measure.amount c.spread.new.hunt in
     let l = u.aim.of.level in
     let m = c.loop-next.invariant.0.from u (refl, λ f. f) in
-    let t = c.in-Some.ensures.loses-first-or-none in
+    let t = c.in-Some.ensures.loses_first_or_none in
     let o = subst (λ a. Offered a.of.level (near a) D (piled (quarter x.square) parts []) c.take.new.self c.spread.new.list) m.0 c.spread.ensures.offered in
     let e = (all_shuffled (Entry l (near u.aim)) (waiting c.loop-next.neighbours) (x ∷ waiting c.take.new.self) t.0 c.loop-next.invariant.1.entries).0 in
     lighter_spread l (near u.aim) D x c.loop-next.neighbours c.take.new.self c.spread.new.list t (omega (arith, e.above)) o
@@ -101,11 +101,11 @@ loop-next-preserved g c =
     let D = done g.B.Store.answers g.M.Measure.amount in
     let w = c.spread.new.hunt in
     let m = c.loop-next.invariant.0.from u (refl, λ f. f) in
-    let t = c.in-Some.ensures.loses-first-or-none in
+    let t = c.in-Some.ensures.loses_first_or_none in
     let o = subst (λ a. Offered a.of.level (near a) (D w) (piled (quarter x.square) parts []) c.take.new.self c.spread.new.list) m.0 c.spread.ensures.offered in (
       later_onward c.loop-next.invariant.0 c.spread.ensures.hunted,
       waits_spread u.aim.of.level (near u.aim) (D v) (D w) x c.loop-next.neighbours c.take.new.self c.spread.new.list c.loop-next.invariant.1 t c.spread.ensures.hunted.keeps o,
-      c.spread.ensures.offered.space ∙ c.take.ensures.same-room ∙ c.loop-next.invariant.2,
+      c.spread.ensures.offered.space ∙ c.take.ensures.same_room ∙ c.loop-next.invariant.2,
     )
 
 pub returns-in-None : goal.returns-in-None
@@ -118,21 +118,21 @@ returns-in-None g c =
     let v = c.loop-next.hunt in
     let h : Hunt g.row.B.Denot g.row.M.Denot = record { aim = record { store = c.args.b; measure = c.args.m; of = c.args.of }; best = None } in
     let m = (later_onward c.offer.ensures.hunted c.loop-next.invariant.0).from h (refl, λ f. f) in
-    let none = c.in-default.ensures.loses-first-or-none in
+    let none = c.in_default.ensures.loses_first_or_none in
     let u = c.offer.new.hunt in
     let d = finished g.B.Store.answers g.M.Measure.amount h.aim u v (c.offer.ensures.hunted.from h (refl, λ f. f)).0 m.0 facts c.loop-next.neighbours none.0 c.loop-next.invariant.1 in
     let laws = key_laws t facts f (g.M.Measure.laws c.args.m.now) in
-    let same = c.take.ensures.same-room ∙ c.loop-next.invariant.2 ∙ c.offer.ensures.offered.space ∙ c.clear.ensures.same-room in
+    let same = c.take.ensures.same_room ∙ c.loop-next.invariant.2 ∙ c.offer.ensures.offered.space ∙ c.clear.ensures.same_room in
     let x = c.greatest-in-None.result in
     let k : Keyed f t l n x 0 = subst (λ y. Keyed f t l n y 0) (sym c.greatest-in-None.ensures) (keyed_none f t l n v.best c.in-None.is d) in
     record {
       keyed = k;
       limited = laws.limited l n x 0 k;
-      no-cell-farther = laws.bounds l n x 0 k;
-      no-quarter-farther = laws.falls l n x 0 k;
-      cell-and-its-nearest = laws.of_cell l n x 0 k;
-      neighbours-empty = none.1;
-      same-room = same;
+      no_cell_farther = laws.bounds l n x 0 k;
+      no_quarter_farther = laws.falls l n x 0 k;
+      cell_and_its_nearest = laws.of_cell l n x 0 k;
+      neighbours_empty = none.1;
+      same_room = same;
     }
 
 pub returns-in-Some-best : goal.returns-in-Some-best
@@ -145,20 +145,20 @@ returns-in-Some-best g c =
     let v = c.loop-next.hunt in
     let h : Hunt g.row.B.Denot g.row.M.Denot = record { aim = record { store = c.args.b; measure = c.args.m; of = c.args.of }; best = None } in
     let m = (later_onward c.offer.ensures.hunted c.loop-next.invariant.0).from h (refl, λ f. f) in
-    let none = c.in-default.ensures.loses-first-or-none in
+    let none = c.in_default.ensures.loses_first_or_none in
     let u = c.offer.new.hunt in
     let d = finished g.B.Store.answers g.M.Measure.amount h.aim u v (c.offer.ensures.hunted.from h (refl, λ f. f)).0 m.0 facts c.loop-next.neighbours none.0 c.loop-next.invariant.1 in
     let laws = key_laws t facts f (g.M.Measure.laws c.args.m.now) in
-    let same = c.take.ensures.same-room ∙ c.loop-next.invariant.2 ∙ c.offer.ensures.offered.space ∙ c.clear.ensures.same-room in
+    let same = c.take.ensures.same_room ∙ c.loop-next.invariant.2 ∙ c.offer.ensures.offered.space ∙ c.clear.ensures.same_room in
     let x = c.in-Some-best.p.key in
     let p = c.in-Some-best.p.number in
     let k : Keyed f t l n x p = keyed_some f t l n v.best c.in-Some-best.p c.in-Some-best.is (m.1 tt) d in
     record {
       keyed = k;
       limited = laws.limited l n x p k;
-      no-cell-farther = laws.bounds l n x p k;
-      no-quarter-farther = laws.falls l n x p k;
-      cell-and-its-nearest = laws.of_cell l n x p k;
-      neighbours-empty = none.1;
-      same-room = same;
+      no_cell_farther = laws.bounds l n x p k;
+      no_quarter_farther = laws.falls l n x p k;
+      cell_and_its_nearest = laws.of_cell l n x p k;
+      neighbours_empty = none.1;
+      same_room = same;
     }

@@ -35,12 +35,12 @@ returns-then-not-add g c =
     let met = look.looked c.requires.board c.requires.above in
     let walked = c.walk.ensures.all_done record {
       board = c.requires.board;
-      above = subst (λ a. a.of.level ≤ s.level) (sym look.same-aim) c.requires.above;
+      above = subst (λ a. a.of.level ≤ s.level) (sym look.same_aim) c.requires.above;
       in_order = λ q i b. absurd (never_behind _ q s c.requires.board i b);
     } in
     record {
       hunted = later_onward met.later walked.later;
-      offered = offered_done l (near_to g.B.Store.answers g.M.Measure.amount u.aim) (done g.B.Store.answers g.M.Measure.amount w) s c.args.list.now c.add.new.self h.same-room h.gains-or-full.1
+      offered = offered_done l (near_to g.B.Store.answers g.M.Measure.amount u.aim) (done g.B.Store.answers g.M.Measure.amount w) s c.args.list.now c.add.new.self h.same_room h.gains_or_full.1
           (λ q i. walked.done_below refl q (subst (λ x. Under x s.level s.number q) (sym met.later.same) i));
     }
 
@@ -54,6 +54,6 @@ returns-else-not-add g c =
     let met = look.looked c.requires.board c.requires.above in
     record {
       hunted = met.later;
-      offered = offered_waits l (near_to g.B.Store.answers g.M.Measure.amount u.aim) (done g.B.Store.answers g.M.Measure.amount v) _ c.args.list.now c.add.new.self h.same-room h.gains-or-full
-          record { above = look.stops-at-level refl; board = c.requires.board; amount = c.near-amount.ensures.value };
+      offered = offered_waits l (near_to g.B.Store.answers g.M.Measure.amount u.aim) (done g.B.Store.answers g.M.Measure.amount v) _ c.args.list.now c.add.new.self h.same_room h.gains_or_full
+          record { above = look.stops_at_level refl; board = c.requires.board; amount = c.near-amount.ensures.value };
     }

@@ -9,13 +9,13 @@ use Rattle.search.proofs.Below.{square_is}
 use Rattle.search.proofs.Laters.{later_onward}
 use Rattle.search.proofs.Offering.{offered_more}
 use Rattle.search.proofs.nearest.spread.Goals as goal
-use Rattle.search.proofs.nearest.spread.Goals.{in-Some, in-default}
+use Rattle.search.proofs.nearest.spread.Goals.{in-Some, in_default}
 
 pub offer-requires : goal.offer-requires
 offer-requires g c =
     let s = c.args.s in
     let k = c.loop-k.k in
-    let h = c.in-Some.ensures.quarter-or-none in
+    let h = c.in-Some.ensures.quarter_or_none in
     let e = square_is c.in-Some.quarter s k h.1 h.2 in
     let f = c.loop-k.invariant.0.same in
     record {
@@ -31,7 +31,7 @@ loop-k-preserved g c =
       | in-Some w ↦
           let u = c.args.hunt.now in
           let v = c.loop-k.hunt in
-          let h = w.in-Some.ensures.quarter-or-none in
+          let h = w.in-Some.ensures.quarter_or_none in
           let new = w.offer.new.hunt in
           let list = w.offer.new.list in
           let near = near_to g.B.Store.answers g.M.Measure.amount in
@@ -46,5 +46,5 @@ loop-k-preserved g c =
             subst (λ l. Offered u.aim.of.level (near u.aim) (D c.match-quarter.hunt) (piled (quarter s) (k + 1) []) c.args.list.now l) (sym w.list-is)
                 (subst (λ x. Offered u.aim.of.level (near u.aim) (D x) (piled (quarter s) (k + 1) []) c.args.list.now list) (sym w.hunt-is) all'),
           )
-      | in-default w ↦ absurd (w.in-default.ensures.quarter-or-none (c.requires.board, omega (arith, c.requires.above), c.loop-k-test.true))
+      | in_default w ↦ absurd (w.in_default.ensures.quarter_or_none (c.requires.board, omega (arith, c.requires.above), c.loop-k-test.true))
     ]

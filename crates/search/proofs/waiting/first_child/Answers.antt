@@ -8,12 +8,12 @@ returns-then-s-left g c =
     let xs = c.args.s.now in
     record { bound = omega arith; best = sifts.only_child (back (λ x' y' r'. r' ≡ g.T.Ord.cmp x' y')) xs c.args.at (c.args.at * 2 + 1) (length xs) refl (omega arith) }
 
-pub returns-then-comes-before : goal.returns-then-comes-before
-returns-then-comes-before g c =
+pub returns-then-comes_before : goal.returns-then-comes_before
+returns-then-comes_before g c =
     let xs = c.args.s.now in
-    record { bound = omega arith; best = sifts.left_child (back (λ x' y' r'. r' ≡ g.T.Ord.cmp x' y')) xs c.args.at (c.args.at * 2 + 1) (length xs) refl c.if-comes-before.ensures }
+    record { bound = omega arith; best = sifts.left_child (back (λ x' y' r'. r' ≡ g.T.Ord.cmp x' y')) xs c.args.at (c.args.at * 2 + 1) (length xs) refl c.if-comes_before.ensures }
 
 pub returns : goal.returns
 returns g c =
     let xs = c.args.s.now in
-    record { bound = omega arith; best = sifts.right_child (back (λ x' y' r'. r' ≡ g.T.Ord.cmp x' y')) xs c.args.at (c.args.at * 2 + 1) (length xs) refl c.if-comes-before.ensures }
+    record { bound = omega arith; best = sifts.right_child (back (λ x' y' r'. r' ≡ g.T.Ord.cmp x' y')) xs c.args.at (c.args.at * 2 + 1) (length xs) refl c.if-comes_before.ensures }

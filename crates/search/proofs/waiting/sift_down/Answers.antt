@@ -9,12 +9,12 @@ use Rattle.search.proofs.waiting.sift_down.Goals as goal
 pub loop-at-init : goal.loop-at-init
 loop-at-init g c = (IsPermutation-refl c.args.s.now, sifts.sink_begins (back (λ x' y' r'. r' ≡ g.T.Ord.cmp x' y')) c.args.s.now 0 (length c.args.s.now))
 
-pub returns-then-not-comes-before : goal.returns-then-not-comes-before
-returns-then-not-comes-before g c =
+pub returns-then-not-comes_before : goal.returns-then-not-comes_before
+returns-then-not-comes_before g c =
     let l = c.loop-at in
     let R = back (λ x' y' r'. r' ≡ g.T.Ord.cmp x' y') in
-    let best = subst (IsGreaterChild R l.s l.at c.first-child-child.result) l.auto.s c.first-child-child.ensures.best in
-    record { shuffled = l.invariant.0; sinks = sifts.sink_rests R c.args.s.now l.s 0 (length c.args.s.now) l.at c.first-child-child.result best c.if-not-comes-before.ensures l.invariant.1 }
+    let best = subst (IsGreaterChild R l.s l.at c.first_child-child.result) l.auto.s c.first_child-child.ensures.best in
+    record { shuffled = l.invariant.0; sinks = sifts.sink_rests R c.args.s.now l.s 0 (length c.args.s.now) l.at c.first_child-child.result best c.if-not-comes_before.ensures l.invariant.1 }
 
 pub loop-at-preserved : goal.loop-at-preserved
 loop-at-preserved g c =
@@ -25,12 +25,12 @@ loop-at-preserved g c =
     let zs = c.swap.new.self in
     let n = length xs in
     let long : length ys ≡ n = l.auto.s in
-    let child = c.first-child-child.result in
-    let b = c.first-child-child.ensures.bound in
-    let best = subst (IsGreaterChild R ys l.at child) long c.first-child-child.ensures.best in
+    let child = c.first_child-child.result in
+    let b = c.first_child-child.ensures.bound in
+    let best = subst (IsGreaterChild R ys l.at child) long c.first_child-child.ensures.best in
     let told = c.swap.ensures in (
       IsPermutation-trans xs ys zs l.invariant.0 told.permutation,
-      sifts.sink_steps R xs ys zs 0 n l.at child (omega arith) b.1 b.2 (omega arith) (omega arith) (told.after ∙ sym (as_core ys l.at child)) best c.if-not-comes-before.ensures l.invariant.1,
+      sifts.sink_steps R xs ys zs 0 n l.at child (omega arith) b.1 b.2 (omega arith) (omega arith) (told.after ∙ sym (as_core ys l.at child)) best c.if-not-comes_before.ensures l.invariant.1,
     )
 
 pub returns : goal.returns

@@ -20,13 +20,13 @@ loop-at-preserved g c =
       omega (arith, told.len),
       omega arith,
       IsPermutation-trans xs ys zs l.invariant.2 told.permutation,
-      sifts.rise_steps (back (λ x' y' r'. r' ≡ g.T.Ord.cmp x' y')) xs ys zs c.args.at l.at up l.invariant.1 in' (told.after ∙ sym (as_core ys ((l.at - 1) / 2) l.at)) c.if-comes-before.ensures l.invariant.3,
+      sifts.rise_steps (back (λ x' y' r'. r' ≡ g.T.Ord.cmp x' y')) xs ys zs c.args.at l.at up l.invariant.1 in' (told.after ∙ sym (as_core ys ((l.at - 1) / 2) l.at)) c.if-comes_before.ensures l.invariant.3,
     )
 
-pub returns-else-comes-before : goal.returns-else-comes-before
-returns-else-comes-before g c =
+pub returns-else-comes_before : goal.returns-else-comes_before
+returns-else-comes_before g c =
     let l = c.loop-at in
-    record { shuffled = l.invariant.2; rises = sifts.rise_rests (back (λ x' y' r'. r' ≡ g.T.Ord.cmp x' y')) c.args.s.now l.s c.args.at l.at c.if-comes-before.ensures l.invariant.3 }
+    record { shuffled = l.invariant.2; rises = sifts.rise_rests (back (λ x' y' r'. r' ≡ g.T.Ord.cmp x' y')) c.args.s.now l.s c.args.at l.at c.if-comes_before.ensures l.invariant.3 }
 
 pub returns-after-loop-at : goal.returns-after-loop-at
 returns-after-loop-at g c =

@@ -14,5 +14,5 @@ returns g c =
     let e : c.counts.result ≡ counts (t 0 (code_of c.args.cell)) = cc in
     record {
       decides = (λ y. sym e ∙ y, λ y. e ∙ y);
-      no-empty-square-around-it = λ y l n h i z. empty_holds_none t f l n (code_of c.args.cell) h z i (sym e ∙ y);
+      no_empty_square_around_it = λ y l n h i z. empty_holds_none t f l n (code_of c.args.cell) h z i (sym e ∙ y);
     }

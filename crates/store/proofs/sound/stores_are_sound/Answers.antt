@@ -6,9 +6,9 @@ returns g c =
     let t = g.S.Store.answers c.args.-store.now in
     let f = g.S.Store.facts c.args.-store.now in
     record {
-      empty-holds-no-cell = empty_holds_none t f;
+      empty_holds_no_cell = empty_holds_none t f;
       counted_holds_a_cell = counted_holds_a_cell t f;
-      holder-is-not-empty = holder_not_empty t f;
-      held-is-on-the-board = held_on_board t f;
+      holder_is_not_empty = holder_not_empty t f;
+      held_is_on_the_board = held_on_board t f;
       one_square_of_each_level = one_square_of_each_level;
     }

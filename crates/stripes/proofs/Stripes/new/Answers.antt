@@ -9,4 +9,4 @@ returns c =
     let p = c.args.pitch in
     let h : 0 < p = omega arith in
     let e = exactly_striped p h in
-    record { pitch-or-none = refl; exact = e; holds-the-stripes = set_of (OnStripe p) (striped p) e }
+    record { pitch_or_none = refl; exact = e; holds_the_stripes = set_of (OnStripe p) (striped p) e }

@@ -8,4 +8,4 @@ returns c =
     let k = c.args.part in
     let a : 512 * k ≡ 8 * (64 * k) = omega arith in
     let b : 8 * (64 * k + 64) ≡ 512 * (k + 1) = omega arith in
-    ap (λ x. x + c.ones-of-bytes.result) (ap (ones_before t) a) ∙ c.ones-of-bytes.ensures ∙ ap (ones_before t) b
+    ap (λ x. x + c.ones_of_bytes.result) (ap (ones_before t) a) ∙ c.ones_of_bytes.ensures ∙ ap (ones_before t) b

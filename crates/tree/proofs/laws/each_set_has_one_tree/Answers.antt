@@ -4,8 +4,8 @@ use Rattle.tree.proofs.Written as written
 
 pub returns : goal.returns
 returns c = record {
-  a-tree-reads-as-a-list = levels.reads_a_list;
-  each-list-has-a-tree = written.written_reads_back;
-  no-other-bits-read-so = levels.read_writes_back;
-  same-cells-same-bits = levels.one_tree;
+  a_tree_reads_as_a_list = levels.reads_a_list;
+  each_list_has_a_tree = written.written_reads_back;
+  no_other_bits_read_so = levels.read_writes_back;
+  same_cells_same_bits = levels.one_tree;
 }

@@ -5,7 +5,7 @@ pub returns : goal.returns
 returns c = record {
   two_cells = worked.example;
   no_cell = worked.empty_example;
-  one-level = worked.flat_example;
+  one_level = worked.flat_example;
   not_valid = worked.refused_examples;
   opened = worked.opened_example;
   writable = worked.writable_example;

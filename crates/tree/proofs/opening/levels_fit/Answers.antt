@@ -17,58 +17,58 @@ next-is t tn low level end ones h e r k =
     let s : suc (level - 1) ≡ level = omega arith in
     next_end t tn low (level - 1) end ones e k r ∙ ap (λ x. demanded x 1 (bits t tn ++ low)) s
 
-pub overflow-mul-next : goal.overflow-mul-next
-overflow-mul-next c = omega (arith, c.loop-level.invariant.1, c.loop-level.invariant.2, ones_before_le c.args.t.now c.loop-level.end, c.requires.upper)
+pub overflow_mul-next : goal.overflow_mul-next
+overflow_mul-next c = omega (arith, c.loop-level.invariant.1, c.loop-level.invariant.2, ones_before_le c.args.t.now c.loop-level.end, c.requires.upper)
 
-pub overflow-add-next : goal.overflow-add-next
-overflow-add-next c = omega (arith, c.loop-level.invariant.1, c.loop-level.invariant.2, ones_before_le c.args.t.now c.loop-level.end, c.requires.upper)
+pub overflow_add-next : goal.overflow_add-next
+overflow_add-next c = omega (arith, c.loop-level.invariant.1, c.loop-level.invariant.2, ones_before_le c.args.t.now c.loop-level.end, c.requires.upper)
 
-pub returns-then-next-t-bits : goal.returns-then-next-t-bits
-returns-then-next-t-bits c = λ l n. (
+pub returns-then-next-t_bits : goal.returns-then-next-t_bits
+returns-then-next-t_bits c = λ l n. (
   λ e. absurd (false≢true e),
-  λ s. absurd (too_short c.args.t.now c.args.t-bits l c.args.height c.loop-level.-level (4 + 4 * c.loop-level.ones) c.requires.high (omega arith)
-      (next-is c.args.t.now c.args.t-bits l c.loop-level.-level c.loop-level.end c.loop-level.ones c.loop-level.auto.-level (c.loop-level.invariant.0 l) c.loop-level.invariant.1 c.loop-level.invariant.2)
-      c.if-next-t-bits.true s),
+  λ s. absurd (too_short c.args.t.now c.args.t_bits l c.args.height c.loop-level.-level (4 + 4 * c.loop-level.ones) c.requires.high (omega arith)
+      (next-is c.args.t.now c.args.t_bits l c.loop-level.-level c.loop-level.end c.loop-level.ones c.loop-level.auto.-level (c.loop-level.invariant.0 l) c.loop-level.invariant.1 c.loop-level.invariant.2)
+      c.if-next-t_bits.true s),
 )
 
-pub ones-between-ones-requires : goal.ones-between-ones-requires
-ones-between-ones-requires c =
-    let e = next-is c.args.t.now c.args.t-bits [] c.loop-level.-level c.loop-level.end c.loop-level.ones c.loop-level.auto.-level (c.loop-level.invariant.0 []) c.loop-level.invariant.1 c.loop-level.invariant.2 in
+pub ones_between-ones-requires : goal.ones_between-ones-requires
+ones_between-ones-requires c =
+    let e = next-is c.args.t.now c.args.t_bits [] c.loop-level.-level c.loop-level.end c.loop-level.ones c.loop-level.auto.-level (c.loop-level.invariant.0 []) c.loop-level.invariant.1 c.loop-level.invariant.2 in
     let k : suc (c.loop-level.-level - 1) ≡ c.loop-level.-level = omega (arith, c.loop-level.auto.-level) in
-    let d = ends_rise (c.loop-level.-level - 1) (bits c.args.t.now c.args.t-bits ++ []) in
+    let d = ends_rise (c.loop-level.-level - 1) (bits c.args.t.now c.args.t_bits ++ []) in
     let u = c.loop-level.invariant.0 [] in
-    let w = ap (λ x. demanded x 1 (bits c.args.t.now c.args.t-bits ++ [])) k in
-    (omega (arith, d, e, u, w), (omega (arith, c.if-next-t-bits.false, c.requires.upper), omega (arith, c.requires.upper)))
+    let w = ap (λ x. demanded x 1 (bits c.args.t.now c.args.t_bits ++ [])) k in
+    (omega (arith, d, e, u, w), (omega (arith, c.if-next-t_bits.false, c.requires.upper), omega (arith, c.requires.upper)))
 
-pub overflow-add-ones : goal.overflow-add-ones
-overflow-add-ones c = omega (arith, c.ones-between-ones.ensures, c.loop-level.invariant.1, ones_before_le c.args.t.now (4 + 4 * c.loop-level.ones), c.if-next-t-bits.false, c.requires.upper)
+pub overflow_add-ones : goal.overflow_add-ones
+overflow_add-ones c = omega (arith, c.ones_between-ones.ensures, c.loop-level.invariant.1, ones_before_le c.args.t.now (4 + 4 * c.loop-level.ones), c.if-next-t_bits.false, c.requires.upper)
 
 pub loop-level-preserved : goal.loop-level-preserved
 loop-level-preserved c = (
   λ low.
       let k : c.loop-level.-level ≡ c.loop-level.-level + 1 - 1 = omega arith in
-      next-is c.args.t.now c.args.t-bits low c.loop-level.-level c.loop-level.end c.loop-level.ones c.loop-level.auto.-level (c.loop-level.invariant.0 low) c.loop-level.invariant.1 c.loop-level.invariant.2
-      ∙ ap (λ x. demanded x 1 (bits c.args.t.now c.args.t-bits ++ low)) k,
-  ap (λ x. x + c.ones-between-ones.result) c.loop-level.invariant.1 ∙ c.ones-between-ones.ensures,
-  c.if-next-t-bits.false,
+      next-is c.args.t.now c.args.t_bits low c.loop-level.-level c.loop-level.end c.loop-level.ones c.loop-level.auto.-level (c.loop-level.invariant.0 low) c.loop-level.invariant.1 c.loop-level.invariant.2
+      ∙ ap (λ x. demanded x 1 (bits c.args.t.now c.args.t_bits ++ low)) k,
+  ap (λ x. x + c.ones_between-ones.result) c.loop-level.invariant.1 ∙ c.ones_between-ones.ensures,
+  c.if-next-t_bits.false,
 )
 
-pub returns-then-end-t-bits : goal.returns-then-end-t-bits
-returns-then-end-t-bits c = λ l n.
+pub returns-then-end-t_bits : goal.returns-then-end-t_bits
+returns-then-end-t_bits c = λ l n.
     let k : c.loop-level.-level - 1 ≡ c.args.height - 1 = omega arith in (
       λ e. absurd (false≢true e),
-      λ s. absurd (not_so c.args.t.now c.args.t-bits l c.args.height c.loop-level.end
-          (c.loop-level.invariant.0 l ∙ ap (λ x. demanded x 1 (bits c.args.t.now c.args.t-bits ++ l)) k) c.if-end-t-bits.true s),
+      λ s. absurd (not_so c.args.t.now c.args.t_bits l c.args.height c.loop-level.end
+          (c.loop-level.invariant.0 l ∙ ap (λ x. demanded x 1 (bits c.args.t.now c.args.t_bits ++ l)) k) c.if-end-t_bits.true s),
     )
 
-pub overflow-mul-result : goal.overflow-mul-result
-overflow-mul-result c = omega (arith, c.loop-level.invariant.1, c.loop-level.invariant.2, ones_before_le c.args.t.now c.loop-level.end, c.requires.upper)
+pub overflow_mul-result : goal.overflow_mul-result
+overflow_mul-result c = omega (arith, c.loop-level.invariant.1, c.loop-level.invariant.2, ones_before_le c.args.t.now c.loop-level.end, c.requires.upper)
 
-pub overflow-add-result : goal.overflow-add-result
-overflow-add-result c = omega (arith, c.loop-level.invariant.1, c.loop-level.invariant.2, ones_before_le c.args.t.now c.loop-level.end, c.requires.upper)
+pub overflow_add-result : goal.overflow_add-result
+overflow_add-result c = omega (arith, c.loop-level.invariant.1, c.loop-level.invariant.2, ones_before_le c.args.t.now c.loop-level.end, c.requires.upper)
 
 pub returns : goal.returns
 returns c = λ l n.
     let k : c.loop-level.-level - 1 ≡ c.args.height - 1 = omega arith in
-    just_so c.args.t.now c.args.t-bits l c.args.height c.loop-level.end c.loop-level.ones c.args.l-bits c.requires.high n
-    (c.loop-level.invariant.0 l ∙ ap (λ x. demanded x 1 (bits c.args.t.now c.args.t-bits ++ l)) k) c.if-end-t-bits.false c.loop-level.invariant.1
+    just_so c.args.t.now c.args.t_bits l c.args.height c.loop-level.end c.loop-level.ones c.args.l_bits c.requires.high n
+    (c.loop-level.invariant.0 l ∙ ap (λ x. demanded x 1 (bits c.args.t.now c.args.t_bits ++ l)) k) c.if-end-t_bits.false c.loop-level.invariant.1

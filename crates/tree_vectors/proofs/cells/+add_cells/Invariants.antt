@@ -1,4 +1,4 @@
 use Rattle.tree_vectors.proofs.cells.+add_cells.Given as goal
 
-abbrev pub decreases-add-cells : goal.decreases-add-cells
-decreases-add-cells l = l.square.level
+abbrev pub decreases-add_cells : goal.decreases-add_cells
+decreases-add_cells l = l.square.level

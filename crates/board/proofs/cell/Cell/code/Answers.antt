@@ -1,7 +1,7 @@
 use Rattle.std.proofs.Common.{◌≡◌, ℕ, ◌*◌, ◌%◌, ◌^◌, sym, ◌∙◌, ap₂, arith}
 use lib.Bits.{bit_or}
 use Rattle.board.specs.Morton.{code, Interleaved}
-use Rattle.board.proofs.Codes.{woven, codes_are_exact}
+use Rattle.board.specs.CodeLaws.Codes.{woven, codes_are_exact}
 use Rattle.board.proofs.cell.Cell.code.Goals as goal
 
 pub returns : goal.returns
@@ -10,4 +10,4 @@ returns c =
     let y = c.args.self.y in
     let e : bit_or c.spread.result (c.spread-2.result * 2 % 2 ^ 32) ≡ code x y =
     ap₂ (λ (s t : ℕ). bit_or s (t * 2 % 2 ^ 32)) c.spread.ensures c.spread-2.ensures ∙ woven x y (omega arith) (omega arith) in
-    record { value = e; bits-by-turns = rw e (codes_are_exact.interleaved x y) }
+    record { value = e; bits_by_turns = rw e (codes_are_exact.interleaved x y) }

@@ -1,10 +1,10 @@
 use Rattle.std.proofs.Common.{◌≡◌}
 use Rattle.board.specs.Morton.{x_of, y_of}
-use Rattle.board.proofs.Codes.{interleaved_of}
+use Rattle.board.specs.CodeLaws.Codes.{interleaved_of}
 use Rattle.board.proofs.cell.Cell.from_code.Goals as goal
 
 pub returns : goal.returns
 returns c =
     let x : c.gather.result ≡ x_of c.args.code = c.gather.ensures in
     let y : c.gather-2.result ≡ y_of c.args.code = c.gather-2.ensures in
-    record { column = x; row = y; bits-by-turns = rw (x, y) (interleaved_of c.args.code) }
+    record { column = x; row = y; bits_by_turns = rw (x, y) (interleaved_of c.args.code) }

@@ -15,4 +15,4 @@ returns c =
     let e : q ≡ p / 4 ^ l =
     cut_level c.code.result l c.min-level.result (omega arith) c.min-level.ensures ∙ ap (λ x. x / 4 ^ l) c.code.ensures.value in
     let d : Decides (eqb q n) (Inside l n p) = Decides-like (eqb q n) (λ h. sym e ∙ h) (λ h. e ∙ h) (Decides-eqb q n) in
-    record { by_code = d; by-columns-and-rows = Decides-like (eqb q n) (squares_are_blocks.inside l n p) (squares_are_blocks.only l n p) d }
+    record { by_code = d; by_columns_and_rows = Decides-like (eqb q n) (squares_are_blocks.inside l n p) (squares_are_blocks.only l n p) d }

@@ -7,13 +7,13 @@ use Rattle.comparison.proofs.Advancing.{handles_dropped, handles_settled, handle
 use Rattle.comparison.proofs.Diving.{stays_same}
 use Rattle.comparison.proofs.comparison.Comparison.handle.Goals as goal
 
-pub returns-then-not-improved-by : goal.returns-then-not-improved-by
-returns-then-not-improved-by g c = record {
+pub returns-then-not-improved_by : goal.returns-then-not-improved_by
+returns-then-not-improved_by g c = record {
   lighter = omega (arith, weight_pos c.args.s.square);
   handled = λ on.
       let v = c.args.self.now in
-      handles_dropped g.A.Store.answers g.B.Store.answers g.M.Measure.amount v c.args.s _ refl refl c.count-on-self.ensures.value
-      (λ i. false≢true (c.if-not-improved-by.ensures.decides.1 (subst (Improves v.trial.figures c.args.s.key) (sym c.first-code.ensures.value) i)));
+      handles_dropped g.A.Store.answers g.B.Store.answers g.M.Measure.amount v c.args.s _ refl refl c.count_on-self.ensures.value
+      (λ i. false≢true (c.if-not-improved_by.ensures.decides.1 (subst (Improves v.trial.figures c.args.s.key) (sym c.first_code.ensures.value) i)));
 }
 
 pub returns-then-s-eq0 : goal.returns-then-s-eq0
@@ -21,9 +21,9 @@ returns-then-s-eq0 g c = record {
   lighter = omega (arith, weight_pos c.args.s.square);
   handled = λ on.
       let v = c.args.self.now in
-      handles_settled g.A.Store.answers g.B.Store.answers g.M.Measure.amount v c.args.s _ refl refl c.count-on-self.ensures.value
+      handles_settled g.A.Store.answers g.B.Store.answers g.M.Measure.amount v c.args.s _ refl refl c.count_on-self.ensures.value
       _ (record { world = refl; idle = λ e. e }) refl c.if-s-eq0.true
-      (subst (Improves v.trial.figures c.args.s.key) c.first-code.ensures.value (c.if-not-improved-by.ensures.decides.0 refl));
+      (subst (Improves v.trial.figures c.args.s.key) c.first_code.ensures.value (c.if-not-improved_by.ensures.decides.0 refl));
 }
 
 pub returns-then-free : goal.returns-then-free
@@ -32,11 +32,11 @@ returns-then-free g c = record {
   handled = λ on.
       let v = c.args.self.now in
       let some = c.if-s-eq0.false in
-      let free = c.free.ensures.free-places in
+      let free = c.free.ensures.free_places in
       let many = c.if-free.true in
-      handles_opened g.A.Store.answers g.B.Store.answers g.M.Measure.amount v c.args.s _ refl refl c.count-on-self.ensures.value
+      handles_opened g.A.Store.answers g.B.Store.answers g.M.Measure.amount v c.args.s _ refl refl c.count_on-self.ensures.value
       c.open.new.self (omega arith)
-      (subst (Improves v.trial.figures c.args.s.key) c.first-code.ensures.value (c.if-not-improved-by.ensures.decides.0 refl))
+      (subst (Improves v.trial.figures c.args.s.key) c.first_code.ensures.value (c.if-not-improved_by.ensures.decides.0 refl))
       (omega arith) (c.open.ensures.opened on (omega arith) (omega arith));
 }
 
@@ -46,10 +46,10 @@ returns-else-free g c = record {
   handled = λ on.
       let v = c.args.self.now in
       let some = c.if-s-eq0.false in
-      let free = c.free.ensures.free-places in
+      let free = c.free.ensures.free_places in
       let few = c.if-free.false in
-      handles_sunk g.A.Store.answers g.B.Store.answers g.M.Measure.amount v c.args.s _ refl refl c.count-on-self.ensures.value
-      c.try-square.new.self (c.try-square.ensures.stays on) (omega arith)
-      (subst (Improves v.trial.figures c.args.s.key) c.first-code.ensures.value (c.if-not-improved-by.ensures.decides.0 refl))
-      (omega arith) (c.try-square.ensures.tried on _);
+      handles_sunk g.A.Store.answers g.B.Store.answers g.M.Measure.amount v c.args.s _ refl refl c.count_on-self.ensures.value
+      c.try_square.new.self (c.try_square.ensures.stays on) (omega arith)
+      (subst (Improves v.trial.figures c.args.s.key) c.first_code.ensures.value (c.if-not-improved_by.ensures.decides.0 refl))
+      (omega arith) (c.try_square.ensures.tried on _);
 }

@@ -1,16 +1,16 @@
 use Rattle.std.proofs.Common.{◌≡◌, true, false, sym, refl, ap, ◌∙◌, subst, ap₂}
 use Rattle.board.specs.Morton.{code}
-use Rattle.board.proofs.Codes.{codes_are_exact}
+use Rattle.board.specs.CodeLaws.Codes.{codes_are_exact}
 use Rattle.comparison.specs.Calls.Looks.{look_early}
 use Rattle.comparison.proofs.Calling.{did_nothing, did_look}
 use Rattle.comparison.proofs.comparison.Comparison.look.Goals as goal
 
 pub returns-then-not-self : goal.returns-then-not-self
-returns-then-not-self g c = record { by-the-rule = λ i. did_nothing g.A.Store.answers g.A.Store.facts g.B.Store.answers g.B.Store.facts g.M.Measure.amount g.M.Measure.laws c.args.self.now _ _ i (look_early c.if-not-self.true) }
+returns-then-not-self g c = record { by_the_rule = λ i. did_nothing g.A.Store.answers g.A.Store.facts g.B.Store.answers g.B.Store.facts g.M.Measure.amount g.M.Measure.laws c.args.self.now _ _ i (look_early c.if-not-self.true) }
 
 pub returns : goal.returns
 returns g c =
     let v = c.args.self.now in
-    let x : code c.from-code.result.x c.from-code.result.y ≡ v.trial.figures.film = ap₂ code c.from-code.ensures.column c.from-code.ensures.row ∙ codes_are_exact.back v.trial.figures.film in
-    let y : code c.from-code-2.result.x c.from-code-2.result.y ≡ v.trial.figures.drawing = ap₂ code c.from-code-2.ensures.column c.from-code-2.ensures.row ∙ codes_are_exact.back v.trial.figures.drawing in
-    record { by-the-rule = λ i. did_look g.A.Store.answers g.A.Store.facts g.B.Store.answers g.B.Store.facts g.M.Measure.amount g.M.Measure.laws v c.high.result c.len.result c.from-code.result c.from-code-2.result i c.if-not-self.false (c.high.ensures.greatest i) x y c.len.ensures.waiting-entries }
+    let x : code c.from_code.result.x c.from_code.result.y ≡ v.trial.figures.film = ap₂ code c.from_code.ensures.column c.from_code.ensures.row ∙ codes_are_exact.back v.trial.figures.film in
+    let y : code c.from_code-2.result.x c.from_code-2.result.y ≡ v.trial.figures.drawing = ap₂ code c.from_code-2.ensures.column c.from_code-2.ensures.row ∙ codes_are_exact.back v.trial.figures.drawing in
+    record { by_the_rule = λ i. did_look g.A.Store.answers g.A.Store.facts g.B.Store.answers g.B.Store.facts g.M.Measure.amount g.M.Measure.laws v c.high.result c.len.result c.from_code.result c.from_code-2.result i c.if-not-self.false (c.high.ensures.greatest i) x y c.len.ensures.waiting_entries }

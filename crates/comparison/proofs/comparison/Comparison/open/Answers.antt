@@ -8,7 +8,7 @@ use Rattle.comparison.specs.Calls.{part}
 use Rattle.comparison.specs.Comparisons.{weighed}
 use Rattle.comparison.proofs.Advancing.{opened_none, opened_more, opened_room}
 use Rattle.comparison.proofs.comparison.Comparison.open.Goals as goal
-use Rattle.comparison.proofs.comparison.Comparison.open.Goals.{in-Some, in-default}
+use Rattle.comparison.proofs.comparison.Comparison.open.Goals.{in-Some, in_default}
 
 heavier : (a b k p q x : ℕ) → a ≤ b + k * p → x ≤ a + q → q ≡ p → x ≤ b + (k + 1) * p
 heavier a b k p q x h g e = omega (arith, add-mul k 1 p)
@@ -23,11 +23,11 @@ pub loop-k-preserved : goal.loop-k-preserved
 loop-k-preserved g c = (
   elim c.match-quarter.branch [
     | in-Some w ↦
-        let e = w.in-Some.ensures.quarter-or-none in
+        let e = w.in-Some.ensures.quarter_or_none in
         let lev : w.in-Some.quarter.level ≡ c.args.s.level - 1 = omega (arith, e.1) in
         heavier (weighed c.loop-k.self) (weighed c.args.self.now) c.loop-k.k (5 ^ (c.args.s.level - 1)) (weight w.in-Some.quarter) (weighed c.match-quarter.self) c.loop-k.invariant.0
         (subst (λ v. weighed v ≤ weighed c.loop-k.self + weight w.in-Some.quarter) (sym w.self-is) w.offer.ensures.lighter) (ap (λ l. 5 ^ l) lev)
-    | in-default w ↦
+    | in_default w ↦
         as-heavy (weighed c.loop-k.self) (weighed c.args.self.now) c.loop-k.k (5 ^ (c.args.s.level - 1)) (weighed c.match-quarter.self) c.loop-k.invariant.0 (ap weighed w.self-is)
   ],
   λ b h free.
@@ -40,13 +40,13 @@ loop-k-preserved g c = (
       elim c.match-quarter.branch [
         | in-Some w ↦
             let q = w.in-Some.quarter in
-            let e = w.in-Some.ensures.quarter-or-none in
+            let e = w.in-Some.ensures.quarter_or_none in
             let lev : q.level ≡ s.level - 1 = omega (arith, e.1) in
             let at : q ≡ part (s.level - 1) s.number k = ap₂ (λ (l n : ℕ). let z : Square = record { level = l; number = n } in z) lev e.2 in
             let on = subst (λ x. OnBoard x.level x.number) (sym at) (quarter_on_board s.level s.number k b h lt) in
             let room = opened_room g.A.Store.answers g.B.Store.answers g.M.Measure.amount u v (s.level - 1) s.number k o lt free in
             subst (Opened g.A.Store.answers g.B.Store.answers g.M.Measure.amount u (s.level - 1) s.number (k + 1)) (sym w.self-is)
             (opened_more g.A.Store.answers g.B.Store.answers g.M.Measure.amount u v w.offer.new.self (s.level - 1) s.number k q at o (w.offer.ensures.offered on room))
-        | in-default w ↦ absurd (w.in-default.ensures.quarter-or-none (b, h, lt))
+        | in_default w ↦ absurd (w.in_default.ensures.quarter_or_none (b, h, lt))
       ],
 )

@@ -11,8 +11,8 @@ loop-call-init g c = λ i.
 
 pub loop-call-preserved : goal.loop-call-preserved
 loop-call-preserved g c = λ i.
-    let h = c.call-outcome.ensures.by-the-rule (c.loop-call.invariant i).in_order in
-    let e = c.in-ok-push.ensures.items in
+    let h = c.call-outcome.ensures.by_the_rule (c.loop-call.invariant i).in_order in
+    let e = c.in_ok-push.ensures.items in
     let u = c.args.self.now in
     let calls = c.args.calls.now in
     let k = c.loop-call.call-index in
@@ -23,7 +23,7 @@ loop-call-preserved g c = λ i.
 
 pub returns : goal.returns
 returns g c = record {
-  by-the-rules = λ i.
+  by_the_rules = λ i.
       let u = c.args.self.now in
       ran g.A.Store.answers g.B.Store.answers g.M.Measure.amount g.A.Store.facts g.B.Store.facts g.M.Measure.laws u c.loop-call.self c.args.calls.now (vec_items c.loop-call.outcomes)
       (subst (λ cs. Going g.A.Store.answers g.B.Store.answers g.M.Measure.amount u cs (vec_items c.loop-call.outcomes) c.loop-call.self) (take_all c.loop-call.call-index c.args.calls.now c.loop-call-test.false) (c.loop-call.invariant i));

@@ -2,7 +2,7 @@ use Rattle.std.proofs.Common.{◌≡◌, Bool, true, false, not, sym, refl, ap, 
 use Rattle.std.proofs.lemmas.Bool.{false≢true, both_ways}
 use Rattle.board.specs.Morton.{code}
 use Rattle.board.specs.Squares.{Inside}
-use Rattle.board.proofs.Codes.{codes_are_exact}
+use Rattle.board.specs.CodeLaws.Codes.{codes_are_exact}
 use Rattle.store.specs.Stores.{counts, Holds}
 use Rattle.store.specs.declared.store.Answer.TheVariants.{Empty}
 use Rattle.comparison.proofs.Diving.{meets_square, meets_empty, meets_other, meets_cell}
@@ -13,11 +13,11 @@ returns-then-s-gt0 g c =
     let v = c.args.self.now in
     let s = c.args.s in
     let a = c.query-answer.ensures.answer in
-    let d = c.is-empty.ensures.decides in
+    let d = c.is_empty.ensures.decides in
     record {
-      same-floor = refl;
-      stops-at-floor = λ e. c.if-s-gt0.true;
-      met = λ r. meets_square g.A.Store.answers g.B.Store.answers g.M.Measure.amount v s c.is-empty.result (g.A.Store.facts v.film) r.board.0
+      same_floor = refl;
+      stops_at_floor = λ e. c.if-s-gt0.true;
+      met = λ r. meets_square g.A.Store.answers g.B.Store.answers g.M.Measure.amount v s c.is_empty.result (g.A.Store.facts v.film) r.board.0
           (λ e. sym a ∙ d.0 e, λ e. d.1 (a ∙ e));
     }
 
@@ -26,8 +26,8 @@ returns-then-not-counts g c =
     let v = c.args.self.now in
     let s = c.args.s in
     record {
-      same-floor = refl;
-      stops-at-floor = λ e. absurd (false≢true e);
+      same_floor = refl;
+      stops_at_floor = λ e. absurd (false≢true e);
       met = λ r. meets_empty g.A.Store.answers g.B.Store.answers g.M.Measure.amount v s c.if-s-gt0.false (sym (ap counts c.query-answer.ensures.answer) ∙ sym c.if-not-counts.ensures.value);
     }
 
@@ -35,10 +35,10 @@ pub returns-then-not-holds : goal.returns-then-not-holds
 returns-then-not-holds g c =
     let v = c.args.self.now in
     let s = c.args.s in
-    let back : code c.from-code.result.x c.from-code.result.y ≡ s.number = ap₂ code c.from-code.ensures.column c.from-code.ensures.row ∙ codes_are_exact.back s.number in
+    let back : code c.from_code.result.x c.from_code.result.y ≡ s.number = ap₂ code c.from_code.ensures.column c.from_code.ensures.row ∙ codes_are_exact.back s.number in
     record {
-      same-floor = refl;
-      stops-at-floor = λ e. absurd (false≢true e);
+      same_floor = refl;
+      stops_at_floor = λ e. absurd (false≢true e);
       met = λ r. meets_other g.A.Store.answers g.B.Store.answers g.M.Measure.amount v s c.if-s-gt0.false
           (λ i. false≢true (c.if-not-holds.ensures.by_code.1 (subst (Inside v.square.level v.square.number) (sym back) i)));
     }
@@ -47,15 +47,15 @@ pub returns : goal.returns
 returns g c =
     let v = c.args.self.now in
     let s = c.args.s in
-    let w = c.try-cell.new.self in
-    let back : code c.from-code.result.x c.from-code.result.y ≡ s.number = ap₂ code c.from-code.ensures.column c.from-code.ensures.row ∙ codes_are_exact.back s.number in
+    let w = c.try_cell.new.self in
+    let back : code c.from_code.result.x c.from_code.result.y ≡ s.number = ap₂ code c.from_code.ensures.column c.from_code.ensures.row ∙ codes_are_exact.back s.number in
     let inside : Inside v.square.level v.square.number s.number = subst (Inside v.square.level v.square.number) back (c.if-not-holds.ensures.by_code.0 refl) in
     let at : counts (g.A.Store.answers v.film s.level s.number) ≡ true = sym (ap counts c.query-answer.ensures.answer) ∙ sym c.if-not-counts.ensures.value in
     let low = c.if-s-gt0.false in
     let zero : s.level ≡ 0 = omega arith in
     let held : Holds (g.A.Store.answers v.film) s.number = subst (λ l. counts (g.A.Store.answers v.film l s.number) ≡ true) zero at in
     record {
-      same-floor = refl;
-      stops-at-floor = λ e. absurd (false≢true e);
-      met = λ r. meets_cell g.A.Store.answers g.B.Store.answers g.M.Measure.amount v w s.number c.try-cell.ensures.stays c.try-cell.ensures.same-square (c.try-cell.ensures.tried 0 held) s low refl inside;
+      same_floor = refl;
+      stops_at_floor = λ e. absurd (false≢true e);
+      met = λ r. meets_cell g.A.Store.answers g.B.Store.answers g.M.Measure.amount v w s.number c.try_cell.ensures.stays c.try_cell.ensures.same_square (c.try_cell.ensures.tried 0 held) s low refl inside;
     }

@@ -16,8 +16,8 @@ returns-then-eq g c =
     let t = g.A.Store.answers v.store.now in
     let e : t s.level s.number ≡ Empty = sym c.query-answer.ensures.answer ∙ c.if-eq.ensures in
     record {
-      same-floor = refl;
-      stops-at-floor = λ e. absurd (false≢true e);
+      same_floor = refl;
+      stops_at_floor = λ e. absurd (false≢true e);
       met = λ r. record {
         later = later_same v;
         done_below = λ _ q u. searched_empty t v.first q (λ o. not_both _ (empty_under t (g.A.Store.facts v.store.now) 0 s.level s.number q r.above r.board.0 e u) o);
@@ -33,10 +33,10 @@ returns-then-counts g c =
     let e : s.level ≡ 0 = omega arith in
     let held : Holds t s.number = subst (λ l. Counts (t l s.number)) e (ap counts (sym c.query-answer.ensures.answer) ∙ sym c.if-counts.ensures.value) in
     record {
-      same-floor = refl;
-      stops-at-floor = λ e. absurd (false≢true e);
+      same_floor = refl;
+      stops_at_floor = λ e. absurd (false≢true e);
       met = λ r.
-          let first : FirstHeld t s.number = first_found t v.first s.number (unset v.first c.if-is-some.ensures) held
+          let first : FirstHeld t s.number = first_found t v.first s.number (unset v.first c.if-is_some.ensures) held
           (λ d lt. r.in_order d (omega arith) (subst (λ l. d * parts ^ 0 < s.number * parts ^ l) (sym e) (omega arith))) in
           record {
             later = record {

@@ -13,8 +13,8 @@ returns-then-eq g c =
     let l = v.aim.of.level in
     let e : t s.level s.number ≡ Empty = sym c.query-answer.ensures.answer ∙ c.if-eq.ensures in
     record {
-      same-aim = refl;
-      stops-at-level = λ e. absurd (false≢true e);
+      same_aim = refl;
+      stops_at_level = λ e. absurd (false≢true e);
       looked = λ b h. record {
         later = later_same v;
         done_below = λ _ q u o. absurd (not_both _ (empty_under t (g.B.Store.facts v.aim.store.now) l s.level s.number q h b.0 e u) o);

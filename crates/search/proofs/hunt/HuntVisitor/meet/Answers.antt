@@ -16,8 +16,8 @@ returns-then-beyond g c =
     let f = g.M.Measure.amount m in
     let far : Beyond v.best (near f of.level of.number s.level s.number) = subst (Beyond v.best) c.near-amount.ensures.value c.if-beyond.ensures in
     record {
-      same-floor = refl;
-      stops-at-floor = λ e. absurd (false≢true e);
+      same_floor = refl;
+      stops_at_floor = λ e. absurd (false≢true e);
       met = λ r. record {
         later = later_same v;
         done_below = λ _ q u o. beyond_under f (bounds f (g.M.Measure.laws m)) of.level of.number v.best s.level s.number q r.above far u;

@@ -10,8 +10,8 @@ counted s h = omega (arith, held-length s.places s.count (omega (arith, s.ok.0, 
 pub bounds-self-self : goal.bounds-self-self
 bounds-self-self c = counted c.args.self.now c.requires
 
-pub invariant-of-self : goal.invariant-of-self
-invariant-of-self c =
+pub invariant_of-self : goal.invariant_of-self
+invariant_of-self c =
     let s = c.args.self.now in
     ((omega (arith, counted s c.requires), length-set s.places s.count c.args.s ∙ s.ok.1), tt)
 

@@ -5,7 +5,7 @@ use Rattle.search.specs.Stacks.{held, from_last}
 use Rattle.search.proofs.Below.{square_is}
 use Rattle.search.proofs.Piled.{piled_length}
 use Rattle.search.proofs.stack.moves.open.Goals as goal
-use Rattle.search.proofs.stack.moves.open.Goals.{in-Some, in-default}
+use Rattle.search.proofs.stack.moves.open.Goals.{in-Some, in_default}
 
 pub push-requires : goal.push-requires
 push-requires c =
@@ -20,8 +20,8 @@ loop-k-preserved c =
     let ss = held c.args.stack.now in
     elim c.match-quarter.branch [
       | in-Some w ↦
-          let h = w.in-Some.ensures.quarter-or-none in
+          let h = w.in-Some.ensures.quarter_or_none in
           let new : w.in-Some.quarter ≡ from_last s k = square_is w.in-Some.quarter s (parts - 1 - k) h.1 h.2 in
           ap held w.stack-is ∙ w.push.ensures ∙ ap₂ ◌∷◌ new c.loop-k.invariant ∙ ap (λ n. piled (from_last s) n ss) (sym (add-one k))
-      | in-default w ↦ absurd (w.in-default.ensures.quarter-or-none (c.requires.quarters.0, c.requires.quarters.1, omega arith))
+      | in_default w ↦ absurd (w.in_default.ensures.quarter_or_none (c.requires.quarters.0, c.requires.quarters.1, omega arith))
     ]

@@ -4,4 +4,4 @@ use Rattle.search.specs.Orders.{turned}
 use Rattle.search.proofs.waiting.WaitingList.clear.Goals as goal
 
 pub returns : goal.returns
-returns g c = record { nothing_waits = refl; in_order = λ o. sifts.empty (turned o) _ refl; same-room = refl }
+returns g c = record { nothing_waits = refl; in_order = λ o. sifts.empty (turned o) _ refl; same_room = refl }

@@ -7,7 +7,7 @@ use Rattle.search.proofs.Bags.{shown}
 use Rattle.search.proofs.waiting.WaitingList.first.Goals as goal
 
 pub returns-then-len-eq0 : goal.returns-then-len-eq0
-returns-then-len-eq0 g c = record { first_or_none = nil_from_length _ (sym c.len.ensures.waiting-entries ∙ c.if-len-eq0.true) }
+returns-then-len-eq0 g c = record { first_or_none = nil_from_length _ (sym c.len.ensures.waiting_entries ∙ c.if-len-eq0.true) }
 
 pub returns : goal.returns
 returns g c =
@@ -16,5 +16,5 @@ returns g c =
     let R = g.T.Ord.cmp in
     record {
       first_or_none = subst (λ x. Has bag x × ((o : IsTotalOrder R) → InHeap o bag → FirstIn o x bag)) c.index-self-0.is
-          (shown R w.places.now w.count c.len.result c.index-self-0.result c.len.ensures.waiting-entries c.if-len-eq0.false c.index-self-0.is);
+          (shown R w.places.now w.count c.len.result c.index-self-0.result c.len.ensures.waiting_entries c.if-len-eq0.false c.index-self-0.is);
     }

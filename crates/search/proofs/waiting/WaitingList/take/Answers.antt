@@ -8,8 +8,8 @@ use Rattle.search.proofs.waiting.WaitingList.take.Goals as goal
 
 pub returns-then-n-eq0 : goal.returns-then-n-eq0
 returns-then-n-eq0 g c =
-    let none = nil_from_length _ (sym c.len-n.ensures.waiting-entries ∙ c.if-n-eq0.true) in
-    record { loses-first-or-none = (none, none); one_less = sym c.len-n.ensures.waiting-entries ∙ c.if-n-eq0.true; same-room = refl }
+    let none = nil_from_length _ (sym c.len-n.ensures.waiting_entries ∙ c.if-n-eq0.true) in
+    record { loses_first_or_none = (none, none); one_less = sym c.len-n.ensures.waiting_entries ∙ c.if-n-eq0.true; same_room = refl }
 
 pub returns : goal.returns
 returns g c =
@@ -18,13 +18,13 @@ returns g c =
     let n = c.len-n.result in
     let x = c.pull-x.result in
     let ys = take (n - 1) c.pull-x.new.s in
-    let same : take n xs ≡ take w.count xs = front xs w.count n c.len-n.ensures.waiting-entries in
+    let same : take n xs ≡ take w.count xs = front xs w.count n c.len-n.ensures.waiting_entries in
     let lost : IsPermutation (take w.count xs) (x ∷ ys) = subst (λ l. IsPermutation l (x ∷ ys)) same c.pull-x.ensures.lost in
     record {
-      loses-first-or-none = (
+      loses_first_or_none = (
         lost,
         subst (λ l. Drawn (λ x' y' r'. r' ≡ g.T.Ord.cmp x' y') l x ys) same c.pull-x.ensures.heap,
       );
       one_less = add-one _ ∙ length_permutation _ _ lost;
-      same-room = c.pull-x.auto.s;
+      same_room = c.pull-x.auto.s;
     }

@@ -6,4 +6,4 @@ pub returns : goal.returns
 returns g c =
     let s = g.S1.Store.answers c.args.first in
     let t = g.S2.Store.answers c.args.second in
-    record { keeps-both = (refl, refl); answers-for-both = joins s t; holds-the-union = either_set s t }
+    record { keeps_both = (refl, refl); answers_for_both = joins s t; holds_the_union = either_set s t }

@@ -6,4 +6,4 @@ use Rattle.store.proofs.list.CodeList.empty.Goals as goal
 
 pub returns : goal.returns
 unfolding occupied
-returns c = record { no_code = refl; every-square-is-empty = λ l n. cond-false _ Occupied Empty (and_right (on_board l n) false refl) }
+returns c = record { no_code = refl; every_square_is_empty = λ l n. cond-false _ Occupied Empty (and_right (on_board l n) false refl) }

@@ -5,8 +5,8 @@ use Rattle.store.proofs.rectangle.Rectangle.new.Goals as goal
 
 pub returns : goal.returns
 returns c = record {
-  ends-or-refused = record { west_end = refl; south_end = refl; east_end = refl; north_end = refl };
-  says-which = tt;
+  ends_or_refused = record { west_end = refl; south_end = refl; east_end = refl; north_end = refl };
+  says_which = tt;
   exact = exactly_rectangle _;
-  holds-its-cells = set_of _ _ (exactly_rectangle _);
+  holds_its_cells = set_of _ _ (exactly_rectangle _);
 }

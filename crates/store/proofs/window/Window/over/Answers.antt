@@ -10,7 +10,7 @@ returns g c =
     let t = g.S.Store.answers c.args.store in
     let f = g.S.Store.facts c.args.store in
     record {
-      keeps-both = (refl, refl);
-      answers-by-place = sees (Covers r) (located r) (placed r) t f;
-      holds-cells-inside = window_set (Covers r) (located r) (placed r) t f;
+      keeps_both = (refl, refl);
+      answers_by_place = sees (Covers r) (located r) (placed r) t f;
+      holds_cells_inside = window_set (Covers r) (located r) (placed r) t f;
     }

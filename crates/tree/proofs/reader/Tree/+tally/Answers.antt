@@ -4,20 +4,20 @@ use Rattle.tree.proofs.Exact.{listed}
 use Rattle.tree.proofs.Walks.{four_pos}
 use Rattle.tree.proofs.Tallying.{Summed, shown_on, summed_all, summed_fits, summed_more, summed_none, tally_cell, tally_none}
 use Rattle.tree.proofs.reader.Tree.+tally.Goals as goal
-use Rattle.tree.proofs.reader.Tree.+tally.Goals.{in-Some, in-default}
+use Rattle.tree.proofs.reader.Tree.+tally.Goals.{in-Some, in_default}
 
 pub returns-then-not-shows : goal.returns-then-not-shows
 returns-then-not-shows t c =
     let s = c.args.square in
-    record { cells-in-the-square = tally_none (cells_of c.args.self.now) s.level s.number (sym c.shows.ensures ∙ c.if-not-shows.true); at-most-all = omega arith }
+    record { cells_in_the_square = tally_none (cells_of c.args.self.now) s.level s.number (sym c.shows.ensures ∙ c.if-not-shows.true); at_most_all = omega arith }
 
 pub returns-then-square-eq0 : goal.returns-then-square-eq0
 returns-then-square-eq0 t c =
     let s = c.args.square in
     let r = c.args.self.now in
     record {
-      cells-in-the-square = tally_cell (cells_of r) s.level s.number c.if-square-eq0.true (listed r).0 (sym c.shows.ensures ∙ c.if-not-shows.false);
-      at-most-all = four_pos s.level;
+      cells_in_the_square = tally_cell (cells_of r) s.level s.number c.if-square-eq0.true (listed r).0 (sym c.shows.ensures ∙ c.if-not-shows.false);
+      at_most_all = four_pos s.level;
     }
 
 pub loop-k-init : goal.loop-k-init
@@ -26,13 +26,13 @@ loop-k-init t c =
     let r = c.args.self.now in
     summed_none (cells_of r) s.level s.number (shown_on (cells_of r) s.level s.number (sym c.shows.ensures ∙ c.if-not-shows.false)) (omega arith)
 
-pub overflow-add-sum : goal.overflow-add-sum
-overflow-add-sum t c =
+pub overflow_add-sum : goal.overflow_add-sum
+overflow_add-sum t c =
     let s = c.args.square in
     let r = c.args.self.now in
-    let q = c.in-Some.ensures.quarter-or-none in
+    let q = c.in-Some.ensures.quarter_or_none in
     let f = summed_fits (cells_of r) s.level s.number (shown_on (cells_of r) s.level s.number (sym c.shows.ensures ∙ c.if-not-shows.false)) (omega arith)
-    c.loop-k.k c.loop-k.sum c.tally-sum.result c.in-Some.quarter.level c.loop-k-test.true c.loop-k.invariant q.1 c.tally-sum.ensures.at-most-all in
+    c.loop-k.k c.loop-k.sum c.tally-sum.result c.in-Some.quarter.level c.loop-k-test.true c.loop-k.invariant q.1 c.tally-sum.ensures.at_most_all in
     omega (arith, f)
 
 pub loop-k-preserved : goal.loop-k-preserved
@@ -42,11 +42,11 @@ loop-k-preserved t c =
     let on = shown_on (cells_of r) s.level s.number (sym c.shows.ensures ∙ c.if-not-shows.false) in
     elim c.match-quarter.branch [
       | in-Some w ↦
-          let q = w.in-Some.ensures.quarter-or-none in
+          let q = w.in-Some.ensures.quarter_or_none in
           rw w.sum-is
           (summed_more (cells_of r) s.level s.number on (omega arith) c.loop-k.k c.loop-k.sum w.tally-sum.result w.in-Some.quarter.level w.in-Some.quarter.number
-          c.loop-k-test.true c.loop-k.invariant q.1 q.2 w.tally-sum.ensures.cells-in-the-square w.tally-sum.ensures.at-most-all)
-      | in-default w ↦ absurd (w.in-default.ensures.quarter-or-none (on, omega arith, c.loop-k-test.true))
+          c.loop-k-test.true c.loop-k.invariant q.1 q.2 w.tally-sum.ensures.cells_in_the_square w.tally-sum.ensures.at_most_all)
+      | in_default w ↦ absurd (w.in_default.ensures.quarter_or_none (on, omega arith, c.loop-k-test.true))
     ]
 
 pub returns : goal.returns
@@ -56,4 +56,4 @@ returns t c =
     let on = shown_on (cells_of r) s.level s.number (sym c.shows.ensures ∙ c.if-not-shows.false) in
     let e : c.loop-k.k ≡ 4 = omega (arith, c.loop-k-test.false, c.loop-k.auto.k-end) in
     let a = summed_all (cells_of r) s.level s.number on (omega arith) c.loop-k.sum (subst (λ k. Summed (cells_of r) s.level s.number k c.loop-k.sum) e c.loop-k.invariant) in
-    record { cells-in-the-square = a.0; at-most-all = a.1 }
+    record { cells_in_the_square = a.0; at_most_all = a.1 }

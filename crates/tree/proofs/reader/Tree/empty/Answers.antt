@@ -13,9 +13,9 @@ no_count : (j : ℕ) → j ≤ 0 → get_or (0 ∷ []) j 0 ≡ ones_before [] (5
 no_count ℕ.zero h = refl
 no_count (ℕ.suc j) h = absurd (omega arith)
 
-pub invariant-of-result : goal.invariant-of-result
+pub invariant_of-result : goal.invariant_of-result
 unfolding demanded
-invariant-of-result c = (
+invariant_of-result c = (
   lit≤ tt,
   (
     (refl, lit≤ tt),

@@ -9,32 +9,32 @@ use Rattle.tree.proofs.Levels.{one_tree}
 use Rattle.tree.proofs.Accepting.{opened_bits, bits_open, bits_cells, unbroken}
 use Rattle.tree.proofs.reader.Tree.open.Goals as goal
 
-pub returns-in-err-check-tree : goal.returns-in-err-check-tree
-returns-in-err-check-tree c =
-    let p = err_from_is_err_and c.from-residual.result c.from-residual.ensures.1 in
+pub returns-in_err-check_tree : goal.returns-in_err-check_tree
+returns-in_err-check_tree c =
+    let p = err_from_is_err_and c.from_residual.result c.from_residual.ensures.1 in
     let a = c.args in
-    let first = c.in-err-check-tree.ensures in
+    let first = c.in_err-check_tree.ensures in
     rw (p.1, p.2) (record {
-      opened-or-refused = (first, refl);
-      accepts-the-bits-of-sets = (
+      opened_or_refused = (first, refl);
+      accepts_the_bits_of_sets = (
         λ e. absurd (false≢true e),
-        λ b. absurd (unbroken a.height a.t.now a.t-bits a.l.now a.l-bits a.counts.now (bits_open a.height a.t.now a.t-bits a.l.now a.l-bits a.counts.now b.0 b.1) _ _ first.0),
+        λ b. absurd (unbroken a.height a.t.now a.t_bits a.l.now a.l_bits a.counts.now (bits_open a.height a.t.now a.t_bits a.l.now a.l_bits a.counts.now b.0 b.1) _ _ first.0),
       );
-      then-holds-that-set = λ codes b.
-          absurd (unbroken a.height a.t.now a.t-bits a.l.now a.l-bits a.counts.now (bits_open a.height a.t.now a.t-bits a.l.now a.l-bits a.counts.now codes b) _ _ first.0);
-      same-cells-same-bits = one_tree;
+      then_holds_that_set = λ codes b.
+          absurd (unbroken a.height a.t.now a.t_bits a.l.now a.l_bits a.counts.now (bits_open a.height a.t.now a.t_bits a.l.now a.l_bits a.counts.now codes b) _ _ first.0);
+      same_cells_same_bits = one_tree;
     })
 
 pub returns : goal.returns
 returns c =
     let a = c.args in
-    let o = c.in-ok-check-tree.ensures in
-    let all = cells a.height (bits a.t.now a.t-bits) (bits a.l.now a.l-bits) in
+    let o = c.in_ok-check_tree.ensures in
+    let all = cells a.height (bits a.t.now a.t_bits) (bits a.l.now a.l_bits) in
     record {
-      opened-or-refused = (o, record { height_is = refl; t_is = refl; l_is = refl; cells_are = refl });
-      accepts-the-bits-of-sets = (λ e. (all, opened_bits a.height a.t.now a.t-bits a.l.now a.l-bits a.counts.now o), λ b. refl);
-      then-holds-that-set = λ codes b.
-          let e : all ≡ codes = bits_cells a.height a.t.now a.t-bits a.l.now a.l-bits a.counts.now codes b in
+      opened_or_refused = (o, record { height_is = refl; t_is = refl; l_is = refl; cells_are = refl });
+      accepts_the_bits_of_sets = (λ e. (all, opened_bits a.height a.t.now a.t_bits a.l.now a.l_bits a.counts.now o), λ b. refl);
+      then_holds_that_set = λ codes b.
+          let e : all ≡ codes = bits_cells a.height a.t.now a.t_bits a.l.now a.l_bits a.counts.now codes b in
           (e, subst (λ cs. Exactly (Has codes) (exact cs)) (sym e) (exactly_list codes));
-      same-cells-same-bits = one_tree;
+      same_cells_same_bits = one_tree;
     }
