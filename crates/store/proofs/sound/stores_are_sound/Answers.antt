@@ -3,8 +3,8 @@ use Rattle.store.proofs.sound.stores_are_sound.Goals as goal
 
 pub returns : goal.returns
 returns g c =
-    let t = g.S.Store.answers c.args.-store.now in
-    let f = g.S.Store.facts c.args.-store.now in
+    let t = g.S.Store.answers c.args._store.now in
+    let f = g.S.Store.facts c.args._store.now in
     record {
       empty_holds_no_cell = empty_holds_none t f;
       counted_holds_a_cell = counted_holds_a_cell t f;
