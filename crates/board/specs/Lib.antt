@@ -1,6 +1,7 @@
 pub mod Limits
 pub mod Morton
 pub mod CellOrder
+pub mod OrderLaws
 pub mod CodeLaws
 pub mod Squares
 pub mod Spans

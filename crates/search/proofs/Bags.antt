@@ -48,18 +48,11 @@ module _ {X : Type 0} where
       by_cases (inr h) = ap (λ k. take k xs) (e ∙ length-take-le c xs h)
 
 -- what sank from the first place is a heap again
-mends : {X : Type 0} (R : X → X → Ordering → Type 0) (xs ys : List X) (n : ℕ) → length ys ≡ n → SiftsDown R xs 0 n ys → RestoresHeap R xs 1 n ys
+mends : {X : Type 0} (R : X → X → Ordering) (xs ys : List X) (n : ℕ) → length ys ≡ n → SiftsDown R xs 0 n ys → RestoresHeap R xs 1 n ys
 unfolding RestoresHeap SiftsDown IsHeap
-mends R xs ys n e h = λ o k. subst (IsHeapWithin (lt_by_cmp o) ys 0) (sym e) (h.1 o k)
+mends R xs ys n e h = λ k. subst (IsHeapWithin (lt_by_cmp R) ys 0) (sym e) (h.1 k)
 
-module _ {X : Type 0} (R : X → X → Ordering → Type 0) where
-  -- from the other way round
-  pub stays : (xs ys : List X) → KeepsHeap (back R) xs ys → Stays R xs ys
-  stays xs ys h = λ o. h (turned o)
-
-  pub drawn : (xs ys : List X) (x : X) → PopsGreatest (back R) xs x ys → Drawn R xs x ys
-  drawn xs ys x h = λ o. h (turned o)
-
+module _ {X : Type 0} (R : X → X → Ordering) where
   -- x in the next place, and risen from there
   pub placed : (xs zs rest : List X) (n : ℕ) (x : X) → n < length xs → IsPermutation (take (n + 1 - 0) (set xs n x)) zs → SiftsUp (back R) (take (n + 1 - 0) (set xs n x)) n zs
       → IsPermutation (x ∷ take n xs) (take (n + 1) (zs ++ rest)) × Stays R (take n xs) (take (n + 1) (zs ++ rest))
@@ -72,7 +65,7 @@ module _ {X : Type 0} (R : X → X → Ordering → Type 0) where
       let out : take (n + 1) (zs ++ rest) ≡ zs = take_at zs rest (n + 1) long in
       let front' : IsPermutation (x ∷ take n xs) ys = subst (IsPermutation (x ∷ take n xs)) (sym is) (IsPermutation-sym _ _ (IsPermutation-to_front (take n xs) x)) in (
         subst (IsPermutation (x ∷ take n xs)) (sym out) (IsPermutation-trans (x ∷ take n xs) ys zs front' s),
-        subst (Stays R (take n xs)) (sym out) (stays (take n xs) zs (sifts.pushed (back R) (take n xs) (x ∷ []) ys zs n (sym short) is long r)),
+        subst (Stays R (take n xs)) (sym out) (λ o. sifts.pushed (back R) (turned o) (take n xs) (x ∷ []) ys zs n (sym short) is long r),
       )
 
   -- the last in the first place, and sunk from there
@@ -96,7 +89,7 @@ module _ {X : Type 0} (R : X → X → Ordering → Type 0) where
       let bag : IsPermutation l (x ∷ ys) = subst (λ v. IsPermutation l (x ∷ v)) (sym is) (loses xs n 0 x y h k p q) in
       let heap : RestoresHeap (back R) ys 1 (n - 1) zs = subst (λ m. RestoresHeap (back R) ys 1 m zs) short (mends (back R) ys zs (length ys) (kept ∙ sym short) r) in (
         subst (λ v. IsPermutation l (x ∷ v)) (sym out) (IsPermutation-trans l (x ∷ ys) (x ∷ zs) bag (IsPermutation-cons x ys zs s)),
-        subst (Drawn R l x) (sym out) (drawn l zs x (sifts.popped (back R) l ys zs x (n - 1) (omega arith) first cut heap)),
+        subst (Drawn R l x) (sym out) (λ o. sifts.popped (back R) (turned o) l ys zs x (n - 1) (omega arith) first cut heap),
       )
 
   -- what stands in the first place

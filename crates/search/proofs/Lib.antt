@@ -1,5 +1,4 @@
 pub mod Bags
-pub mod Ranked
 pub mod Piled
 pub mod Stacked
 pub mod Below

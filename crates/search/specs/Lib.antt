@@ -1,6 +1,7 @@
 pub mod Orders
 pub mod WaitingLists
 pub mod Neighbours
+pub mod NeighbourLaws
 pub mod Descents
 pub mod Piles
 pub mod Stacks

@@ -2,7 +2,7 @@
 use Rattle.std.specs.Prelude.{◌≡◌, ℕ, ◌*◌, ◌^◌, ◌<◌, min}
 use Rattle.std.specs.declared.cmp.Ordering.TheVariants.{Less, Equal}
 use Rattle.std.specs.declared.cmp.Ordering.{Ordering}
-use Rattle.std.specs.Cmp.{IsTotalOrder, nat_cmp_total, pairs}
+use Rattle.std.specs.Cmp.{IsTotalOrder, nat_cmp_total, then_total}
 use Rattle.std.specs.Ordering.{ordering_then, nat_cmp}
 use Rattle.board.specs.Limits.{top, parts}
 use Rattle.search.specs.Orders.{turned, viewed}
@@ -16,12 +16,14 @@ first_code x = x.square.number * parts ^ min x.square.level top
 abbrev pub before : Neighbour → Neighbour → Ordering
 before x y = ordering_then (ordering_then (nat_cmp x.amount y.amount) (nat_cmp (first_code x) (first_code y))) (nat_cmp y.square.level x.square.level)
 
-abbrev pub ordered : Neighbour → Neighbour → Ordering → Type 0
-ordered x y r = r ≡ before x y
+-- the order that lists of neighbours keep
+abbrev pub ordered : Neighbour → Neighbour → Ordering
+ordered = before
 
 -- it is a total order
 abbrev pub neighbours : IsTotalOrder ordered
-neighbours = viewed (pairs (pairs nat_cmp_total nat_cmp_total) (turned nat_cmp_total)) (λ (x : Neighbour). ((x.amount, first_code x), x.square.level))
+neighbours =
+    then_total (then_total (viewed nat_cmp_total (λ (x : Neighbour). x.amount)) (viewed nat_cmp_total first_code)) (viewed (turned nat_cmp_total) (λ (x : Neighbour). x.square.level))
 
 -- it goes by the amount, then by the first code, then by the level, the highest first; and calls no two neighbours equal
 pub record NeighboursAreOrdered : Type 0 where

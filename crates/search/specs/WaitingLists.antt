@@ -6,7 +6,7 @@ use Rattle.std.specs.Cmp.{IsTotalOrder}
 use Rattle.std.specs.Ordering.{is_lt}
 use Rattle.std.specs.List.Sorted.{IsPermutation}
 use Rattle.std.specs.List.{ContainsAt as Has, AllByRecursion as All}
-use Rattle.search.specs.Orders.{turned}
+use Rattle.search.specs.Orders.{back}
 use Rattle.search.specs.declared.waiting.WaitingList.{WaitingList}
 
 module _ {X : Type 0} where
@@ -20,13 +20,13 @@ module _ {X : Type 0} where
 
   -- no entry comes before its parent, that at (i - 1) / 2: a heap whose first entry is at place 0
   abbrev pub InHeap : {R : X → X → Ordering} → IsTotalOrder R → List X → Type 0
-  InHeap o xs = IsHeap (turned o) xs
+  InHeap {R} o xs = IsHeap (back R) xs
 
   -- no entry of xs comes before x
   abbrev pub FirstIn : {R : X → X → Ordering} → IsTotalOrder R → X → List X → Type 0
-  FirstIn o x xs = All (λ y. is_lt (o.cmp y x) ≡ false) xs
+  FirstIn {R} o x xs = All (λ y. is_lt (R y x) ≡ false) xs
 
-module _ {X : Type 0} (R : X → X → Ordering → Type 0) where
+module _ {X : Type 0} (R : X → X → Ordering) where
   -- the list is a heap: what `new` and `clear` give, and `add` and `take` keep
   abbrev pub Ready : WaitingList X → Type 0
   Ready w = (o : IsTotalOrder R) → InHeap o (waiting w)

@@ -1,8 +1,7 @@
 // Squares of B that wait to be looked into, and their order.
 ghost use Rattle.std.specs.Prelude.{◌≡◌, IsSomeAnd, Some, refl};
-ghost use Rattle.search.specs.Neighbours.{before, first_code, NeighboursAreOrdered};
-ghost use Rattle.std.specs.Cmp.Rules.{comparing};
-ghost use Rattle.std.proofs.Common.{rules};
+ghost use Rattle.search.specs.Neighbours.{before, first_code, neighbours, NeighboursAreOrdered};
+ghost use Rattle.search.specs.NeighbourLaws.{ties};
 ghost use Rattle.std.specs.Cmp.{partial_order_from_agreeing_total};
 
 use board::measure::Amount;
@@ -26,7 +25,7 @@ fn first_code(x: &Neighbour) -> u64
 impl PartialOrd for Neighbour {
     ghost partial_cmp = { λ x y. Some (before x y) };
 
-    ghost laws = { partial_order_from_agreeing_total (λ x y. before x y) (Prim.search (comparing, rules)) (λ _ _. refl) (Prim.search (comparing, rules)) };
+    ghost laws = { partial_order_from_agreeing_total before neighbours (λ _ _. refl) ties };
 
     fn partial_cmp(&self, other: &Neighbour) -> Option<Ordering> {
         Some(self.cmp(other))
@@ -35,13 +34,13 @@ impl PartialOrd for Neighbour {
 
 // The smaller amount comes first, then the smaller first code, then the higher level.
 impl Ord for Neighbour {
-    ghost cmp = { λ x y. before x y };
+    ghost cmp = { before };
 
-    ghost total = { Prim.search (comparing, rules) };
+    ghost total = { neighbours };
 
-    ghost matches_partial_cmp = { Prim.search (comparing, rules) };
+    ghost matches_partial_cmp = { λ _ _. refl };
 
-    ghost matches_eq = { Prim.search (comparing, rules) };
+    ghost matches_eq = { ties };
 
     fn cmp(&self, other: &Neighbour) -> Ordering {
         let by_amount = self.amount.cmp(&other.amount);

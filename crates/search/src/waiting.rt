@@ -40,7 +40,7 @@ impl<'a, T> WaitingList<'a, T> {
 // Whether the entry at a comes before the one at b.
 fn comes_before<T: Ord>(s: &[T], a: usize, b: usize) -> bool
     requires { (a < length s.now) × (b < length s.now) }
-    ensures { ComparesAt (back (λ x' y' r'. r' ≡ T.Ord.cmp x' y')) s.now b a result }
+    ensures { ComparesAt (back T.Ord.cmp) s.now b a result }
 {
     s[a].cmp(&s[b]).is_lt()
 }
@@ -49,7 +49,7 @@ fn comes_before<T: Ord>(s: &[T], a: usize, b: usize) -> bool
 fn sift_up<T: Ord>(s: &mut [T], mut at: usize)
     requires { at < length s.old }
     ensures shuffled { IsPermutation s.old s.new }
-    ensures rises { SiftsUp (back (λ x' y' r'. r' ≡ T.Ord.cmp x' y')) s.old at s.new }
+    ensures rises { SiftsUp (back T.Ord.cmp) s.old at s.new }
 {
     while 0 < at && comes_before(s, at, (at - 1) / 2) {
         s.swap((at - 1) / 2, at);
@@ -61,7 +61,7 @@ fn sift_up<T: Ord>(s: &mut [T], mut at: usize)
 fn first_child<T: Ord>(s: &[T], at: usize) -> usize
     requires { at * 2 + 1 < length s.now }
     ensures bound { (result < length s.now) × (at * 2 + 1 ≤ result) × (result ≤ at * 2 + 2) }
-    ensures best { IsGreaterChild (back (λ x' y' r'. r' ≡ T.Ord.cmp x' y')) s.now at result (length s.now) }
+    ensures best { IsGreaterChild (back T.Ord.cmp) s.now at result (length s.now) }
 {
     let left = at * 2 + 1;
     if s.len() <= left + 1 {
@@ -76,7 +76,7 @@ fn first_child<T: Ord>(s: &[T], at: usize) -> usize
 // Moves the entry at the first place down, past the children that come before it.
 fn sift_down<T: Ord>(s: &mut [T])
     ensures shuffled { IsPermutation s.old s.new }
-    ensures sinks { SiftsDown (back (λ x' y' r'. r' ≡ T.Ord.cmp x' y')) s.old 0 (length s.old) s.new }
+    ensures sinks { SiftsDown (back T.Ord.cmp) s.old 0 (length s.old) s.new }
 {
     let mut at = 0;
     while at < s.len() / 2 {
@@ -93,7 +93,7 @@ fn sift_down<T: Ord>(s: &mut [T])
 fn put<T: Ord + Copy>(s: &mut [T], n: usize, x: T)
     requires { n < length s.old }
     ensures gained { IsPermutation (x ∷ take n s.old) (take (n + 1) s.new) }
-    ensures heap { Stays (λ x' y' r'. r' ≡ T.Ord.cmp x' y') (take n s.old) (take (n + 1) s.new) }
+    ensures heap { Stays T.Ord.cmp (take n s.old) (take (n + 1) s.new) }
 {
     s[n] = x;
     sift_up(&mut s[0..n + 1], n);
@@ -103,7 +103,7 @@ fn put<T: Ord + Copy>(s: &mut [T], n: usize, x: T)
 fn pull<T: Ord + Copy>(s: &mut [T], n: usize) -> T
     requires { (0 < n) × (n ≤ length s.old) }
     ensures lost { IsPermutation (take n s.old) (result ∷ take (n - 1) s.new) }
-    ensures heap { Drawn (λ x' y' r'. r' ≡ T.Ord.cmp x' y') (take n s.old) result (take (n - 1) s.new) }
+    ensures heap { Drawn T.Ord.cmp (take n s.old) result (take (n - 1) s.new) }
 {
     let x = s[0];
     let last = n - 1;
@@ -116,7 +116,7 @@ impl<'a, T: Ord + Copy> WaitingList<'a, T> {
     // A list in these places, in which nothing waits.
     pub fn new(places: &'a mut [T]) -> WaitingList<'a, T>
         ensures nothing_waits { waiting result ≡ [] }
-        ensures in_order { Ready (λ x' y' r'. r' ≡ T.Ord.cmp x' y') result }
+        ensures in_order { Ready T.Ord.cmp result }
         ensures all_places { room result ≡ length places.old }
     {
         WaitingList { places, count: 0 }
@@ -125,7 +125,7 @@ impl<'a, T: Ord + Copy> WaitingList<'a, T> {
     // Lets all entries go.
     pub fn clear(&mut self)
         ensures nothing_waits { waiting self.new ≡ [] }
-        ensures in_order { Ready (λ x' y' r'. r' ≡ T.Ord.cmp x' y') self.new }
+        ensures in_order { Ready T.Ord.cmp self.new }
         ensures same_room { room self.new ≡ room self.old }
     {
         self.count = 0;
@@ -133,7 +133,7 @@ impl<'a, T: Ord + Copy> WaitingList<'a, T> {
 
     // Adds x; false where no place is free.
     pub fn add(&mut self, x: T) -> bool
-        ensures gains_or_full { Added (λ x' y' r'. r' ≡ T.Ord.cmp x' y') self.old x result self.new }
+        ensures gains_or_full { Added T.Ord.cmp self.old x result self.new }
         ensures one_more { length (waiting self.new) ≡ (if result then length (waiting self.old) + 1 else length (waiting self.old)) }
         ensures same_room { room self.new ≡ room self.old }
     {
@@ -148,7 +148,7 @@ impl<'a, T: Ord + Copy> WaitingList<'a, T> {
 
     // The first in order, which goes on waiting; none where nothing waits.
     pub fn first(&self) -> Option<T>
-        ensures first_or_none { Shown (λ x' y' r'. r' ≡ T.Ord.cmp x' y') self.now result }
+        ensures first_or_none { Shown T.Ord.cmp self.now result }
     {
         if self.len() == 0 {
             return None;
@@ -159,7 +159,7 @@ impl<'a, T: Ord + Copy> WaitingList<'a, T> {
 
     // Takes the first in order, and frees its place; none where nothing waits.
     pub fn take(&mut self) -> Option<T>
-        ensures loses_first_or_none { Taken (λ x' y' r'. r' ≡ T.Ord.cmp x' y') self.old result self.new }
+        ensures loses_first_or_none { Taken T.Ord.cmp self.old result self.new }
         ensures one_less { MatchOption result (length (waiting self.old) ≡ 0) (λ _. length (waiting self.new) + 1 ≡ length (waiting self.old)) }
         ensures same_room { room self.new ≡ room self.old }
     {

@@ -1,9 +1,9 @@
 -- Cell order is the order of codes.
-use Rattle.std.proofs.Common.{◌≡◌, ◌==◌, ◌&&◌, ℕ, ◌<◌, Ordering, Less, Equal, Greater, Decides, is_eq, sym, ap, ◌∙◌, ap₂}
-use Rattle.std.specs.Bool.{one_answer}
-use Rattle.std.specs.Cmp.{IsTotalOrder, nat_cmp_total, ranks, tied_itself, Equal-is}
-use Rattle.std.specs.Ordering.{MatchOrdering, nat_cmp}
+use Rattle.std.proofs.Common.{◌≡◌, ◌==◌, ◌&&◌, ℕ, ◌<◌, Ordering, Less, Equal, Greater, is_eq, sym, ap, ◌∙◌, subst, ap₂}
+use Rattle.std.specs.Cmp.{IsTotalOrder, nat_cmp_total, ranks}
+use Rattle.std.specs.Ordering.{MatchOrdering}
 use Rattle.std.proofs.lemmas.Bool.Decides.{Decides-and, Decides-eqb, Decides-like}
+use Rattle.board.specs.OrderLaws.{ties_where_equal}
 use Rattle.board.specs.declared.cell.Cell.{Cell}
 use Rattle.board.specs.CellOrder.{by_code, CellOrderIsCodeOrder}
 use Rattle.board.specs.Morton.{code, x_of, y_of}
@@ -30,24 +30,17 @@ by_cell x y Less h = h
 by_cell x y Equal h = same_cell x y h
 by_cell x y Greater h = h
 
--- cells are ordered as equal where their columns and rows are
-tied : (x y : Cell) (r : Ordering) → MatchOrdering r (code x.x x.y < code y.x y.y) (code x.x x.y ≡ code y.x y.y) (code y.x y.y < code x.x x.y)
-    → r ≡ Equal → (x.x ≡ y.x) × (x.y ≡ y.y)
-tied x y Less h e = cc
-tied x y Equal h e = let s = same_cell x y h in (ap (λ (c : Cell). c.x) s, ap (λ (c : Cell). c.y) s)
-tied x y Greater h e = cc
-
-pub ties : (x y : Cell) → ((x.x == y.x) && (x.y == y.y)) ≡ is_eq (by_code x y)
-ties x y =
-    let same : Decides ((x.x == y.x) && (x.y == y.y)) (by_code x y ≡ Equal) =
-    Decides-like _
-    (λ e. ap₂ (λ a b. nat_cmp (code a b) (code y.x y.y)) e.0 e.1 ∙ tied_itself nat_cmp_total (code y.x y.y))
-    (λ e. tied x y (by_code x y) (ranks (code x.x x.y) (code y.x y.y)) e)
-    (Decides-and _ _ (Decides-eqb x.x y.x) (Decides-eqb x.y y.y)) in
-    one_answer _ _ same (Equal-is (by_code x y))
-
 pub cell_order_is_code_order : CellOrderIsCodeOrder
 cell_order_is_code_order = record {
   total = total;
   ranks = λ x y. by_cell x y (by_code x y) (ranks (code x.x x.y) (code y.x y.y));
 }
+
+-- the order ties just where `==` answers true
+pub ties : (x y : Cell) → ((x.x == y.x) && (x.y == y.y)) ≡ is_eq (by_code x y)
+ties = ties_where_equal total
+    (λ x y. Decides-like _
+    (λ e. ap₂ (λ (a b : ℕ). let c : Cell = record { x = a; y = b } in c) e.0 e.1)
+    (λ e. (ap (λ (c : Cell). c.x) e, ap (λ (c : Cell). c.y) e))
+    (Decides-and _ _ (Decides-eqb x.x y.x) (Decides-eqb x.y y.y)))
+    (λ x y e. subst (λ r. MatchOrdering r (code x.x x.y < code y.x y.y) (x ≡ y) (code y.x y.y < code x.x x.y)) e (cell_order_is_code_order.ranks x y))

@@ -4,5 +4,5 @@ use Rattle.std.proofs.Common.{◌≡◌}
 
 pub returns : goal.returns
 returns g c =
-    let k = placed (λ x' y' r'. r' ≡ g.T.Ord.cmp x' y') c.args.s.now c.sift_up.new.s _ c.args.n c.args.x c.requires c.sift_up.ensures.shuffled c.sift_up.ensures.rises in
+    let k = placed g.T.Ord.cmp c.args.s.now c.sift_up.new.s _ c.args.n c.args.x c.requires c.sift_up.ensures.shuffled c.sift_up.ensures.rises in
     record { gained = k.0; heap = k.1 }

@@ -2,11 +2,11 @@ use Rattle.std.proofs.Common.{◌≡◌, ◌-◌, ◌/◌, ◌<◌, length, sym,
 use Rattle.std.proofs.Permutation.{as_core}
 use Rattle.std.proofs.HeapSift as sifts
 use Rattle.std.proofs.lemmas.List.Sorted.{IsPermutation-refl, IsPermutation-trans}
-use Rattle.search.specs.Orders.{back}
+use Rattle.search.specs.Orders.{back, turned}
 use Rattle.search.proofs.waiting.sift_up.Goals as goal
 
 pub loop-at-init : goal.loop-at-init
-loop-at-init g c = (c.requires, omega arith, IsPermutation-refl c.args.s.now, sifts.rise_begins (back (λ x' y' r'. r' ≡ g.T.Ord.cmp x' y')) c.args.s.now c.args.at)
+loop-at-init g c = (c.requires, omega arith, IsPermutation-refl c.args.s.now, sifts.rise_begins (back g.T.Ord.cmp) (turned g.met.T.Ord.total) c.args.s.now c.args.at)
 
 pub loop-at-preserved : goal.loop-at-preserved
 loop-at-preserved g c =
@@ -20,15 +20,15 @@ loop-at-preserved g c =
       omega (arith, told.len),
       omega arith,
       IsPermutation-trans xs ys zs l.invariant.2 told.permutation,
-      sifts.rise_steps (back (λ x' y' r'. r' ≡ g.T.Ord.cmp x' y')) xs ys zs c.args.at l.at up l.invariant.1 in' (told.after ∙ sym (as_core ys ((l.at - 1) / 2) l.at)) c.if-comes_before.ensures l.invariant.3,
+      sifts.rise_steps (back g.T.Ord.cmp) (turned g.met.T.Ord.total) xs ys zs c.args.at l.at up l.invariant.1 in' (told.after ∙ sym (as_core ys ((l.at - 1) / 2) l.at)) c.if-comes_before.ensures l.invariant.3,
     )
 
 pub returns-else-comes_before : goal.returns-else-comes_before
 returns-else-comes_before g c =
     let l = c.loop-at in
-    record { shuffled = l.invariant.2; rises = sifts.rise_rests (back (λ x' y' r'. r' ≡ g.T.Ord.cmp x' y')) c.args.s.now l.s c.args.at l.at c.if-comes_before.ensures l.invariant.3 }
+    record { shuffled = l.invariant.2; rises = sifts.rise_rests (back g.T.Ord.cmp) (turned g.met.T.Ord.total) c.args.s.now l.s c.args.at l.at c.if-comes_before.ensures l.invariant.3 }
 
 pub returns-after-loop-at : goal.returns-after-loop-at
 returns-after-loop-at g c =
     let l = c.loop-at in
-    record { shuffled = l.invariant.2; rises = sifts.rise_tops (back (λ x' y' r'. r' ≡ g.T.Ord.cmp x' y')) c.args.s.now l.s c.args.at l.at (omega arith) l.invariant.3 }
+    record { shuffled = l.invariant.2; rises = sifts.rise_tops (back g.T.Ord.cmp) (turned g.met.T.Ord.total) c.args.s.now l.s c.args.at l.at (omega arith) l.invariant.3 }

@@ -1,11 +1,11 @@
 use Rattle.std.proofs.HeapSift as sifts
 use Rattle.std.specs.List.Sorted.{IsPermutation}
-use Rattle.search.specs.Orders.{back}
+use Rattle.search.specs.Orders.{back, turned}
 use Rattle.std.proofs.Common.{◌≡◌, ◌<◌, ◌≤◌, length}
 use Rattle.search.proofs.waiting.sift_up.Given as goal
 
 abbrev pub invariant-loop-at : goal.invariant-loop-at
-invariant-loop-at g l = (l.«at» < length l.s) × (l.«at» ≤ l.initial.«at») × IsPermutation l.initial.s l.s × sifts.Rising (back (λ x' y' r'. r' ≡ g.T.Ord.cmp x' y')) l.initial.s l.initial.«at» l.s l.«at»
+invariant-loop-at g l = (l.«at» < length l.s) × (l.«at» ≤ l.initial.«at») × IsPermutation l.initial.s l.s × sifts.Rising (back g.T.Ord.cmp) (turned g.met.T.Ord.total) l.initial.s l.initial.«at» l.s l.«at»
 
 abbrev pub decreases-loop-at : goal.decreases-loop-at
 decreases-loop-at g l = l.«at»

@@ -26,16 +26,16 @@ overflow_add-next c = omega (arith, c.loop-level.invariant.1, c.loop-level.invar
 pub returns-then-next-t_bits : goal.returns-then-next-t_bits
 returns-then-next-t_bits c = λ l n. (
   λ e. absurd (false≢true e),
-  λ s. absurd (too_short c.args.t.now c.args.t_bits l c.args.height c.loop-level.-level (4 + 4 * c.loop-level.ones) c.requires.high (omega arith)
-      (next-is c.args.t.now c.args.t_bits l c.loop-level.-level c.loop-level.end c.loop-level.ones c.loop-level.auto.-level (c.loop-level.invariant.0 l) c.loop-level.invariant.1 c.loop-level.invariant.2)
+  λ s. absurd (too_short c.args.t.now c.args.t_bits l c.args.height c.loop-level._level (4 + 4 * c.loop-level.ones) c.requires.high (omega arith)
+      (next-is c.args.t.now c.args.t_bits l c.loop-level._level c.loop-level.end c.loop-level.ones c.loop-level.auto._level (c.loop-level.invariant.0 l) c.loop-level.invariant.1 c.loop-level.invariant.2)
       c.if-next-t_bits.true s),
 )
 
 pub ones_between-ones-requires : goal.ones_between-ones-requires
 ones_between-ones-requires c =
-    let e = next-is c.args.t.now c.args.t_bits [] c.loop-level.-level c.loop-level.end c.loop-level.ones c.loop-level.auto.-level (c.loop-level.invariant.0 []) c.loop-level.invariant.1 c.loop-level.invariant.2 in
-    let k : suc (c.loop-level.-level - 1) ≡ c.loop-level.-level = omega (arith, c.loop-level.auto.-level) in
-    let d = ends_rise (c.loop-level.-level - 1) (bits c.args.t.now c.args.t_bits ++ []) in
+    let e = next-is c.args.t.now c.args.t_bits [] c.loop-level._level c.loop-level.end c.loop-level.ones c.loop-level.auto._level (c.loop-level.invariant.0 []) c.loop-level.invariant.1 c.loop-level.invariant.2 in
+    let k : suc (c.loop-level._level - 1) ≡ c.loop-level._level = omega (arith, c.loop-level.auto._level) in
+    let d = ends_rise (c.loop-level._level - 1) (bits c.args.t.now c.args.t_bits ++ []) in
     let u = c.loop-level.invariant.0 [] in
     let w = ap (λ x. demanded x 1 (bits c.args.t.now c.args.t_bits ++ [])) k in
     (omega (arith, d, e, u, w), (omega (arith, c.if-next-t_bits.false, c.requires.upper), omega (arith, c.requires.upper)))
@@ -46,8 +46,8 @@ overflow_add-ones c = omega (arith, c.ones_between-ones.ensures, c.loop-level.in
 pub loop-level-preserved : goal.loop-level-preserved
 loop-level-preserved c = (
   λ low.
-      let k : c.loop-level.-level ≡ c.loop-level.-level + 1 - 1 = omega arith in
-      next-is c.args.t.now c.args.t_bits low c.loop-level.-level c.loop-level.end c.loop-level.ones c.loop-level.auto.-level (c.loop-level.invariant.0 low) c.loop-level.invariant.1 c.loop-level.invariant.2
+      let k : c.loop-level._level ≡ c.loop-level._level + 1 - 1 = omega arith in
+      next-is c.args.t.now c.args.t_bits low c.loop-level._level c.loop-level.end c.loop-level.ones c.loop-level.auto._level (c.loop-level.invariant.0 low) c.loop-level.invariant.1 c.loop-level.invariant.2
       ∙ ap (λ x. demanded x 1 (bits c.args.t.now c.args.t_bits ++ low)) k,
   ap (λ x. x + c.ones_between-ones.result) c.loop-level.invariant.1 ∙ c.ones_between-ones.ensures,
   c.if-next-t_bits.false,
@@ -55,7 +55,7 @@ loop-level-preserved c = (
 
 pub returns-then-end-t_bits : goal.returns-then-end-t_bits
 returns-then-end-t_bits c = λ l n.
-    let k : c.loop-level.-level - 1 ≡ c.args.height - 1 = omega arith in (
+    let k : c.loop-level._level - 1 ≡ c.args.height - 1 = omega arith in (
       λ e. absurd (false≢true e),
       λ s. absurd (not_so c.args.t.now c.args.t_bits l c.args.height c.loop-level.end
           (c.loop-level.invariant.0 l ∙ ap (λ x. demanded x 1 (bits c.args.t.now c.args.t_bits ++ l)) k) c.if-end-t_bits.true s),
@@ -69,6 +69,6 @@ overflow_add-result c = omega (arith, c.loop-level.invariant.1, c.loop-level.inv
 
 pub returns : goal.returns
 returns c = λ l n.
-    let k : c.loop-level.-level - 1 ≡ c.args.height - 1 = omega arith in
+    let k : c.loop-level._level - 1 ≡ c.args.height - 1 = omega arith in
     just_so c.args.t.now c.args.t_bits l c.args.height c.loop-level.end c.loop-level.ones c.args.l_bits c.requires.high n
     (c.loop-level.invariant.0 l ∙ ap (λ x. demanded x 1 (bits c.args.t.now c.args.t_bits ++ l)) k) c.if-end-t_bits.false c.loop-level.invariant.1

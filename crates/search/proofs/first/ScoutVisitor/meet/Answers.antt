@@ -1,5 +1,7 @@
-use Rattle.std.proofs.Common.{◌≡◌, ◌*◌, ◌^◌, ◌<◌, sym, refl, ap, ◌∙◌, subst, arith}
+use denote.Enum.Bare.{same_true}
+use Rattle.std.proofs.Common.{◌≡◌, ◌*◌, ◌^◌, ◌<◌, sym, refl, ap, ◌∙◌, subst, arith, rules}
 use Rattle.std.proofs.lemmas.Bool.{false≢true}
+use Rattle.store.specs.contracts.store.Answer.{the_type}
 use Rattle.store.specs.declared.store.Answer.TheVariants.{Empty}
 use Rattle.store.specs.Stores.{counts, Counts, Holds}
 use Rattle.board.specs.Limits.{parts}
@@ -14,7 +16,7 @@ returns-then-eq g c =
     let v = c.args.self.now in
     let s = c.args.s in
     let t = g.A.Store.answers v.store.now in
-    let e : t s.level s.number ≡ Empty = sym c.query-answer.ensures.answer ∙ c.if-eq.ensures in
+    let e : t s.level s.number ≡ Empty = sym c.query-answer.ensures.answer ∙ same_true the_type (search rules) _ _ (sym c.if-eq.ensures) in
     record {
       same_floor = refl;
       stops_at_floor = λ e. absurd (false≢true e);

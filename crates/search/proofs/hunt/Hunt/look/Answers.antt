@@ -1,5 +1,7 @@
-use Rattle.std.proofs.Common.{◌≡◌, sym, refl, ◌∙◌}
+use denote.Enum.Bare.{same_true}
+use Rattle.std.proofs.Common.{◌≡◌, sym, refl, ◌∙◌, rules}
 use Rattle.std.proofs.lemmas.Bool.{false≢true}
+use Rattle.store.specs.contracts.store.Answer.{the_type}
 use Rattle.store.specs.declared.store.Answer.TheVariants.{Empty}
 use Rattle.search.proofs.Counting.{not_both, empty_under}
 use Rattle.search.proofs.Laters.{later_same}
@@ -11,7 +13,7 @@ returns-then-eq g c =
     let s = c.args.s in
     let t = g.B.Store.answers v.aim.store.now in
     let l = v.aim.of.level in
-    let e : t s.level s.number ≡ Empty = sym c.query-answer.ensures.answer ∙ c.if-eq.ensures in
+    let e : t s.level s.number ≡ Empty = sym c.query-answer.ensures.answer ∙ same_true the_type (search rules) _ _ (sym c.if-eq.ensures) in
     record {
       same_aim = refl;
       stops_at_level = λ e. absurd (false≢true e);

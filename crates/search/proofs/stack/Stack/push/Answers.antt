@@ -13,7 +13,7 @@ bounds-self-self c = counted c.args.self.now c.requires
 pub invariant_of-self : goal.invariant_of-self
 invariant_of-self c =
     let s = c.args.self.now in
-    ((omega (arith, counted s c.requires), length-set s.places s.count c.args.s ∙ s.ok.1), tt)
+    record { ok = (omega (arith, counted s c.requires), length-set s.places s.count c.args.s ∙ s.ok.1) }
 
 pub returns : goal.returns
 returns c =

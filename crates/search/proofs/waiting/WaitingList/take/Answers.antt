@@ -23,7 +23,7 @@ returns g c =
     record {
       loses_first_or_none = (
         lost,
-        subst (λ l. Drawn (λ x' y' r'. r' ≡ g.T.Ord.cmp x' y') l x ys) same c.pull-x.ensures.heap,
+        subst (λ l. Drawn g.T.Ord.cmp l x ys) same c.pull-x.ensures.heap,
       );
       one_less = add-one _ ∙ length_permutation _ _ lost;
       same_room = c.pull-x.auto.s;

@@ -15,22 +15,15 @@ no_count (ℕ.suc j) h = absurd (omega arith)
 
 pub invariant_of-result : goal.invariant_of-result
 unfolding demanded
-invariant_of-result c = (
-  lit≤ tt,
-  (
-    (refl, lit≤ tt),
-    (
-      (refl, lit≤ tt),
-      (
-        (λ p h k. absurd (omega arith)),
-        (
-          (λ p h k. no-bit p k),
-          ((lit< tt, (refl, refl), λ k p h. absurd (omega arith)), ((lit< tt, no_count), tt)),
-        ),
-      ),
-    ),
-  ),
-)
+invariant_of-result c = record {
+  low = lit≤ tt;
+  upper = (refl, lit≤ tt);
+  lower = (refl, lit≤ tt);
+  upper_spare = λ p h k. absurd (omega arith);
+  lower_spare = λ p h k. no-bit p k;
+  valid = (lit< tt, (refl, refl), λ k p h. absurd (omega arith));
+  counted = (lit< tt, no_count);
+}
 
 pub returns : goal.returns
 unfolding below

@@ -1,7 +1,9 @@
--- The order of neighbours.
-use Rattle.std.proofs.Common.{◌≡◌, ℕ, ◌*◌, ◌^◌, ◌<◌, ◌≤◌, min, Ordering, Less, Equal, Greater, sym, refl, ap, ◌∙◌, subst, ap₂, le_of_mul-le-mul_right, arith}
-use Rattle.std.specs.Cmp.{nat_cmp_total, ranks}
+-- The order of neighbours: why it is as it is said to be.
+use Rattle.std.proofs.Common.{◌≡◌, ◌==◌, ◌&&◌, is_eq, ℕ, ◌*◌, ◌^◌, ◌<◌, ◌≤◌, min, Ordering, Less, Equal, Greater, sym, refl, ap, ◌∙◌, subst, ap₂, le_of_mul-le-mul_right, arith}
+use Rattle.std.specs.Cmp.{nat_cmp_is, ranks}
 use Rattle.std.specs.Ordering.{MatchOrdering, ordering_then, nat_cmp}
+use Rattle.std.proofs.lemmas.Bool.Decides.{Decides-and, Decides-eqb, Decides-like}
+use Rattle.board.specs.OrderLaws.{ties_where_equal, squares_equal}
 use Rattle.board.specs.Limits.{parts, top}
 use Rattle.board.proofs.Boards.{four_positive}
 use Rattle.board.specs.declared.square.Square.{Square}
@@ -9,10 +11,10 @@ use Rattle.search.specs.declared.neighbour.Neighbour.{Neighbour}
 use Rattle.search.specs.Neighbours.{first_code, before, neighbours, NeighboursAreOrdered}
 
 less : (a b : ℕ) → a < b → nat_cmp a b ≡ Less
-less a b h = sym (nat_cmp_total.says a b Less h)
+less a b h = sym (nat_cmp_is a b Less h)
 
 tied : (a b : ℕ) → a ≡ b → nat_cmp a b ≡ Equal
-tied a b h = sym (nat_cmp_total.says a b Equal h)
+tied a b h = sym (nat_cmp_is a b Equal h)
 
 untied : (a b : ℕ) → nat_cmp a b ≡ Equal → a ≡ b
 untied a b e = subst (λ r. MatchOrdering r (a < b) (a ≡ b) (b < a)) e (ranks a b)
@@ -60,3 +62,12 @@ neighbours_are_ordered = record {
       ap₂ ordering_then (ap₂ ordering_then a c) l;
   no_two_equal = same;
 }
+
+-- the order ties just where `==` answers true
+pub ties : (x y : Neighbour) → ((x.amount == y.amount) && ((x.square.level == y.square.level) && (x.square.number == y.square.number))) ≡ is_eq (before x y)
+ties = ties_where_equal neighbours
+    (λ x y. Decides-like _
+    (λ e. ap₂ (λ (a : ℕ) (s : Square). let z : Neighbour = record { amount = a; square = s } in z) e.0 e.1)
+    (λ e. (ap (λ (z : Neighbour). z.amount) e, ap (λ (z : Neighbour). z.square) e))
+    (Decides-and _ _ (Decides-eqb x.amount y.amount) (squares_equal x.square y.square)))
+    same
