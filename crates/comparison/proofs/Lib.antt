@@ -1,4 +1,3 @@
-pub mod Ranked
 pub mod Keying
 pub mod Existing
 pub mod Handling

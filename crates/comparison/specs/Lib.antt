@@ -1,5 +1,6 @@
 pub mod World
 pub mod Suspects
+pub mod SuspectLaws
 pub mod Faults
 pub mod Calls
 pub mod Law

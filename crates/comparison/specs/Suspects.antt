@@ -2,7 +2,7 @@
 use Rattle.std.specs.Prelude.{◌≡◌, ℕ, ◌*◌, ◌^◌, ◌<◌, min}
 use Rattle.std.specs.declared.cmp.Ordering.TheVariants.{Less, Equal}
 use Rattle.std.specs.declared.cmp.Ordering.{Ordering}
-use Rattle.std.specs.Cmp.{IsTotalOrder, nat_cmp_total, pairs}
+use Rattle.std.specs.Cmp.{IsTotalOrder, nat_cmp_total, then_total}
 use Rattle.std.specs.Ordering.{ordering_then, nat_cmp}
 use Rattle.board.specs.Limits.{top, parts}
 use Rattle.board.specs.declared.square.Square.{Square}
@@ -17,12 +17,16 @@ first_code s = s.number * parts ^ min s.level top
 abbrev pub before : Suspect → Suspect → Ordering
 before x y = ordering_then (ordering_then (ordering_then (nat_cmp y.key x.key) (nat_cmp (first_code x.square) (first_code y.square))) (nat_cmp y.square.level x.square.level)) (nat_cmp x.partner y.partner)
 
-abbrev pub ordered : Suspect → Suspect → Ordering → Type 0
-ordered x y r = r ≡ before x y
+-- the order that lists of suspects keep
+abbrev pub ordered : Suspect → Suspect → Ordering
+ordered = before
 
 -- it is a total order
 abbrev pub suspects : IsTotalOrder ordered
-suspects = viewed (pairs (pairs (pairs (turned nat_cmp_total) nat_cmp_total) (turned nat_cmp_total)) nat_cmp_total) (λ (x : Suspect). (((x.key, first_code x.square), x.square.level), x.partner))
+suspects =
+    then_total
+    (then_total (then_total (viewed (turned nat_cmp_total) (λ (x : Suspect). x.key)) (viewed nat_cmp_total (λ (x : Suspect). first_code x.square))) (viewed (turned nat_cmp_total) (λ (x : Suspect). x.square.level)))
+    (viewed nat_cmp_total (λ (x : Suspect). x.partner))
 
 -- it goes by the key, the greatest first; then by the first code; then by the level, the highest first; then by the partner; and calls no two suspects equal
 pub record SuspectsAreOrdered : Type 0 where

@@ -1,8 +1,7 @@
 // Squares of A that wait to be looked into, and their order.
 ghost use Rattle.std.specs.Prelude.{◌≡◌, IsSomeAnd, Some, refl};
-ghost use Rattle.comparison.specs.Suspects.{before, first_code, SuspectsAreOrdered};
-ghost use Rattle.std.specs.Cmp.Rules.{comparing};
-ghost use Rattle.std.proofs.Common.{rules};
+ghost use Rattle.comparison.specs.Suspects.{before, first_code, suspects, SuspectsAreOrdered};
+ghost use Rattle.comparison.specs.SuspectLaws.{ties};
 ghost use Rattle.std.specs.Cmp.{partial_order_from_agreeing_total};
 
 use board::measure::Amount;
@@ -27,7 +26,7 @@ pub fn first_code(s: Square) -> u64
 impl PartialOrd for Suspect {
     ghost partial_cmp = { λ x y. Some (before x y) };
 
-    ghost laws = { partial_order_from_agreeing_total (λ x y. before x y) (Prim.search (comparing, rules)) (λ _ _. refl) (Prim.search (comparing, rules)) };
+    ghost laws = { partial_order_from_agreeing_total before suspects (λ _ _. refl) ties };
 
     fn partial_cmp(&self, other: &Suspect) -> Option<Ordering> {
         Some(self.cmp(other))
@@ -36,13 +35,13 @@ impl PartialOrd for Suspect {
 
 // The greater key comes first, then the smaller first code, then the higher level, then the smaller partner.
 impl Ord for Suspect {
-    ghost cmp = { λ x y. before x y };
+    ghost cmp = { before };
 
-    ghost total = { Prim.search (comparing, rules) };
+    ghost total = { suspects };
 
-    ghost matches_partial_cmp = { Prim.search (comparing, rules) };
+    ghost matches_partial_cmp = { λ _ _. refl };
 
-    ghost matches_eq = { Prim.search (comparing, rules) };
+    ghost matches_eq = { ties };
 
     fn cmp(&self, other: &Suspect) -> Ordering {
         let by_key = other.key.cmp(&self.key);

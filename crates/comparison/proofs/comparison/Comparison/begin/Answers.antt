@@ -30,7 +30,7 @@ returns g c = record {
   by_the_rule = λ i.
       let v = c.args.self.now in
       let h : 0 < room v.suspects = omega (arith, c.capacity.ensures.all_places, c.if-capacity-eq0.false) in
-      did_begin g.A.Store.answers g.A.Store.facts g.B.Store.answers g.B.Store.facts g.M.Measure.amount g.M.Measure.laws v c.start.new.self c.code.result (code_of c.in-Some-first_of_drawing.-some) i h
+      did_begin g.A.Store.answers g.A.Store.facts g.B.Store.answers g.B.Store.facts g.M.Measure.amount g.M.Measure.laws v c.start.new.self c.code.result (code_of c.in-Some-first_of_drawing._some) i h
       (omega (arith, c.neighbour_places.ensures.all_places, c.if-neighbour_places-eq0.false))
       (subst (FirstHeld (g.A.Store.answers v.trial.film)) (sym c.code.ensures.value) c.in-Some.ensures.first_or_none)
       c.in-Some-first_of_drawing.ensures.first_or_none.held (c.start.ensures.started h);

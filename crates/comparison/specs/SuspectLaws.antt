@@ -1,18 +1,20 @@
--- The order of suspects.
-use Rattle.std.proofs.Common.{◌≡◌, ℕ, ◌*◌, ◌^◌, ◌<◌, ◌≤◌, min, true, false, Ordering, Less, Equal, Greater, sym, refl, ap, ◌∙◌, subst, ap₂, arith}
+-- The order of suspects: why it is as it is said to be.
+use Rattle.std.proofs.Common.{◌≡◌, ◌==◌, ◌&&◌, is_eq, ℕ, ◌*◌, ◌^◌, ◌<◌, ◌≤◌, min, true, false, Ordering, Less, Equal, Greater, sym, refl, ap, ◌∙◌, subst, ap₂, arith}
 use native.Mathlib.Nat.{eq_of_mul-eq-mul_right}
-use Rattle.std.specs.Cmp.{nat_cmp_total, ranks}
+use Rattle.std.specs.Cmp.{nat_cmp_is, ranks}
 use Rattle.std.specs.Ordering.{MatchOrdering, ordering_then, nat_cmp}
+use Rattle.std.proofs.lemmas.Bool.Decides.{Decides-and, Decides-eqb, Decides-like}
+use Rattle.board.specs.OrderLaws.{ties_where_equal, squares_equal}
 use Rattle.board.proofs.Boards.{four_positive}
 use Rattle.board.specs.declared.square.Square.{Square}
 use Rattle.comparison.specs.declared.suspect.Suspect.{Suspect}
 use Rattle.comparison.specs.Suspects.{first_code, before, suspects, SuspectsAreOrdered}
 
 less : (a b : ℕ) → a < b → nat_cmp a b ≡ Less
-less a b h = sym (nat_cmp_total.says a b Less h)
+less a b h = sym (nat_cmp_is a b Less h)
 
 tied : (a b : ℕ) → a ≡ b → nat_cmp a b ≡ Equal
-tied a b h = sym (nat_cmp_total.says a b Equal h)
+tied a b h = sym (nat_cmp_is a b Equal h)
 
 untied : (a b : ℕ) → nat_cmp a b ≡ Equal → a ≡ b
 untied a b e = subst (λ r. MatchOrdering r (a < b) (a ≡ b) (b < a)) e (ranks a b)
@@ -55,3 +57,13 @@ suspects_are_ordered = record {
       ap₂ ordering_then (ap₂ ordering_then (ap₂ ordering_then (tied y.key x.key e) (tied (first_code x.square) (first_code y.square) f)) (tied y.square.level x.square.level g)) (less x.partner y.partner h);
   no_two_equal = same;
 }
+
+-- the order ties just where `==` answers true
+pub ties : (x y : Suspect) → ((x.key == y.key) && (((x.square.level == y.square.level) && (x.square.number == y.square.number)) && (x.partner == y.partner))) ≡ is_eq (before x y)
+ties = ties_where_equal suspects
+    (λ x y. Decides-like _
+    (λ e. ap₂ (λ (k : ℕ) (s : Square). let z : Suspect = record { key = k; square = s; partner = x.partner } in z) e.0 e.1.0
+    ∙ ap (λ (p : ℕ). let z : Suspect = record { key = y.key; square = y.square; partner = p } in z) e.1.1)
+    (λ e. (ap (λ (z : Suspect). z.key) e, (ap (λ (z : Suspect). z.square) e, ap (λ (z : Suspect). z.partner) e)))
+    (Decides-and _ _ (Decides-eqb x.key y.key) (Decides-and _ _ (squares_equal x.square y.square) (Decides-eqb x.partner y.partner))))
+    same
