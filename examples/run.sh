@@ -2,7 +2,8 @@
 # Runs filmdist, or another program, on two films: sh examples/run.sh FILM DRAWING [PROGRAM]
 # The program reads a.cells and b.cells in the folder that it is started in, so both are laid into a new one.
 set -eu
-program="$(pwd)/target/bin/${3:-filmdist}"
+name="${3:-filmdist}"
+program="$(pwd)/crates/$name/out/$name"
 folder="$(mktemp -d)"
 trap 'rm -rf "$folder"' EXIT
 lay() {

@@ -1,9 +1,9 @@
 -- Squares are blocks of cells.
-use Rattle.std.proofs.Common.{◌≡◌, ℕ, zero, suc, ◌+◌, ◌-◌, ◌*◌, ◌/◌, ◌%◌, ◌^◌, ◌<◌, ◌≤◌, min, max, sym, refl, ap, ◌∙◌, ap₂, mul-le-mul_right, suc-mul, arith}
-use Rattle.std.proofs.lemmas.Nat.{pow_pos, pow-add, div-add-mod', mod_below, div-mul-add, div_below}
+use Rattle.std.proofs.Common.{◌≡◌, ℕ, suc, ◌+◌, ◌-◌, ◌*◌, ◌/◌, ◌^◌, ◌<◌, ◌≤◌, sym, ap, ◌∙◌, ap₂, mul-le-mul_right, suc-mul, arith}
+use Rattle.std.proofs.lemmas.Nat.{pow_pos, pow-add, div-add-mod', mod_below, div-mul-add}
 use Rattle.board.specs.Morton.{x_of, y_of, code}
 use Rattle.board.specs.Spans.{first, last, SquaresAreBlocks}
-use Rattle.board.specs.CodeLaws.Codes.{x_outer, y_outer, back, codes_are_exact}
+use Rattle.board.specs.CodeFacts.Codes.{x_outer, y_outer, back, codes_are_exact}
 
 -- p lies in the block of 2 ^ l places that begins at p / 2 ^ l * 2 ^ l
 block : (p l : ℕ) → (p / 2 ^ l * 2 ^ l ≤ p) × (p ≤ p / 2 ^ l * 2 ^ l + (2 ^ l - 1))

@@ -1,11 +1,11 @@
 -- Near and far amounts bound distances.
-use Rattle.std.proofs.Common.{◌≡◌, ℕ, zero, suc, ◌+◌, ◌-◌, ◌*◌, ◌/◌, ◌%◌, ◌^◌, ◌<◌, ◌≤◌, min, max, sym, refl, ap, ◌∙◌, ap₂, le_trans, add-zero, mul-le-mul_right, mul_assoc, suc-mul, mul_comm, add-mul, zero-add, div-one, arith}
+use Rattle.std.proofs.Common.{◌≡◌, ℕ, suc, ◌+◌, ◌*◌, ◌/◌, ◌^◌, ◌<◌, ◌≤◌, ap₂, le_trans, add-zero, mul-le-mul_right, mul_assoc, suc-mul, mul_comm, add-mul, zero-add, div-one, arith}
 use Rattle.std.proofs.lemmas.Nat.{pow_pos, pow-add, div-add-mod', mod_below}
 use Rattle.board.specs.Morton.{x_of, y_of}
 use Rattle.board.specs.Spans.{first, last, least, greatest, gap}
 use Rattle.board.specs.Measures.{MeasureLaws}
 use Rattle.board.specs.Distances.{distance, between, near, far, Bounds}
-use Rattle.board.specs.CodeLaws.Codes.{x_outer, y_outer, x_lt, y_lt}
+use Rattle.board.specs.CodeFacts.Codes.{x_outer, y_outer, x_lt, y_lt}
 
 -- ---- along one axis
 

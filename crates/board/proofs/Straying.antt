@@ -1,7 +1,7 @@
 -- One distance and one pair at most, and the first of all pairs that show the distance.
-use Rattle.std.proofs.Common.{◌≡◌, ℕ, ◌<◌, ◌≤◌, ◌⊎◌, sym, refl, ap, ◌∙◌, subst, inl, inr, ⊎_elim, arith}
+use Rattle.std.proofs.Common.{◌≡◌, ℕ, ◌≤◌, sym, ◌∙◌, subst, inl, inr, ⊎_elim, arith}
 use Rattle.std.proofs.lemmas.Bool.{cases_lt}
-use Rattle.board.specs.Strays.{Nearest, Strays, Shows, AtLeast, Within, PairOrder, StraysNamesOne}
+use Rattle.board.specs.Strays.{Strays, Shows, AtLeast, Within, PairOrder, StraysNamesOne}
 
 module _ (dist : ℕ → ℕ → ℕ) (A B : ℕ → Type 0) where
   shown : (d a b : ℕ) → Strays dist A B d a b → Shows dist A B d a b

@@ -1,8 +1,8 @@
 pub mod Limits
 pub mod Morton
 pub mod CellOrder
-pub mod OrderLaws
-pub mod CodeLaws
+pub mod OrderFacts
+pub mod CodeFacts
 pub mod Squares
 pub mod Spans
 pub mod Measures

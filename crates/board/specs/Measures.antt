@@ -1,6 +1,6 @@
 -- Measures: an amount for each offset.
-use Rattle.std.specs.Prelude.{◌≡◌, ℕ, ◌+◌, ◌*◌, ◌^◌, ◌≤◌, max}
-use Rattle.std.proofs.Common.{ap, sym, mul-le-mul, arith}
+use Rattle.std.specs.Prelude.{ℕ, ◌+◌, ◌*◌, ◌≤◌, max}
+use Rattle.std.proofs.Common.{mul-le-mul, arith}
 use Rattle.board.specs.Limits.{edge, most}
 
 -- what every measure owes: amounts do not fall when an offset grows, and stay small

@@ -1,6 +1,6 @@
 -- What a square covers along an axis, and the offsets between two such spans.
 -- Ends past the edge of the board count as the edge, 65,535: no square of the board has one.
-use Rattle.std.specs.Prelude.{◌≡◌, ℕ, ◌+◌, ◌-◌, ◌*◌, ◌/◌, ◌^◌, ◌<◌, ◌≤◌, min, max}
+use Rattle.std.specs.Prelude.{◌≡◌, ℕ, ◌+◌, ◌-◌, ◌*◌, ◌^◌, ◌≤◌, min, max}
 use Rattle.board.specs.Limits.{edge}
 use Rattle.board.specs.Morton.{x_of, y_of}
 use Rattle.board.specs.Squares.{OnBoard, Inside}

@@ -2,7 +2,7 @@
 ghost use Rattle.std.specs.Prelude.{◌≡◌, IsSomeAnd, Some, refl};
 ghost use Rattle.board.specs.CellOrder.{by_code, CellOrderIsCodeOrder};
 ghost use Rattle.board.specs.Morton.{evens, spaced, x_of, y_of, code as coded, Interleaved, CodesAreExact};
-ghost use Rattle.board.specs.CodeLaws.Ordered.{total as cells_total, ties as cells_tie};
+ghost use Rattle.board.specs.CodeFacts.Ordered.{total as cells_total, ties as cells_tie};
 ghost use Rattle.std.specs.Cmp.{partial_order_from_agreeing_total};
 
 use std::cmp::Ordering;

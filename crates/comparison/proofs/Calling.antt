@@ -38,7 +38,7 @@ use Rattle.comparison.specs.Trials.{over, Stays}
 use Rattle.comparison.specs.World.{World, Facts, InFilm, KeyedAt}
 use Rattle.comparison.proofs.Advancing.{over_places}
 use Rattle.comparison.proofs.Keeping.{one_more, greatest-below, keys_below}
-use Rattle.comparison.specs.SuspectLaws.{suspects_are_ordered}
+use Rattle.comparison.specs.SuspectFacts.{suspects_are_ordered}
 
 -- the first in order has the greatest key
 pub first_key : (xs : List Suspect) (x : Suspect) → Has xs x → FirstIn suspects x xs → greatest_key xs ≡ x.key

@@ -31,7 +31,7 @@ use Rattle.comparison.specs.World.{World, Facts, KeyedAt}
 use Rattle.comparison.proofs.Handling.{settled_from}
 use Rattle.comparison.proofs.Keeping.{greatest-below, keys_below}
 use Rattle.comparison.proofs.Keying.{laws}
-use Rattle.comparison.specs.SuspectLaws.{same}
+use Rattle.comparison.specs.SuspectFacts.{same}
 
 -- ---- bags of suspects
 

@@ -1,6 +1,6 @@
 pub mod World
 pub mod Suspects
-pub mod SuspectLaws
+pub mod SuspectFacts
 pub mod Faults
 pub mod Calls
 pub mod Law

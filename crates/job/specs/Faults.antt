@@ -1,5 +1,5 @@
 -- The faults of a job: their part, number and place.
-use Rattle.std.specs.Prelude.{ℕ, List, Some, None, Option}
+use Rattle.std.specs.Prelude.{ℕ, Some, None, Option}
 use Rattle.board.specs.Lists.{list_numbered}
 use Rattle.board.specs.declared.side.Side.{Side}
 use Rattle.scan.specs.Faults.{scan_numbered}

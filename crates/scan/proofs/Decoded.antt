@@ -4,7 +4,7 @@ use Rattle.board.specs.Distances.{distance}
 use Rattle.board.specs.Findings.{code_of}
 use Rattle.board.specs.Morton.{code, x_of, y_of}
 use Rattle.board.specs.declared.cell.Cell.{Cell}
-use Rattle.board.specs.CodeLaws.Codes.{back}
+use Rattle.board.specs.CodeFacts.Codes.{back}
 
 -- the cell that a code stands for has that code
 pub coded : (n : ℕ) (c : Cell) → c.x ≡ x_of n → c.y ≡ y_of n → code_of c ≡ n

@@ -11,7 +11,7 @@ use Rattle.std.proofs.lemmas.List.Sorted.{IsPermutation-sym, IsPermutation-to_fr
 use Rattle.std.proofs.lemmas.List.Edits.{swap_is}
 use Rattle.std.proofs.ByRecursion.{has_get_or}
 use Rattle.std.proofs.HeapSift as sifts
-use Rattle.std.specs.BinaryHeap.{lt_by_cmp, IsHeap, KeepsHeap, PopsGreatest}
+use Rattle.std.specs.BinaryHeap.{lt_by_cmp, IsHeap}
 use Rattle.std.specs.BinaryHeap.Sift.{RestoresHeap, SiftsUp, SiftsDown}
 use Rattle.search.specs.Orders.{back, turned}
 use Rattle.search.specs.WaitingLists.{Stays, Drawn, InHeap, FirstIn}

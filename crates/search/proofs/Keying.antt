@@ -1,5 +1,5 @@
 -- What keys say of distances.
-use Rattle.std.proofs.Common.{◌≡◌, ℕ, zero, ◌+◌, ◌*◌, ◌/◌, ◌^◌, ◌<◌, ◌≤◌, sym, ◌∙◌, subst, inl, inr, le_trans, arith}
+use Rattle.std.proofs.Common.{◌≡◌, ℕ, ◌+◌, ◌*◌, ◌/◌, ◌^◌, ◌<◌, ◌≤◌, sym, ◌∙◌, subst, inl, inr, le_trans, arith}
 use Rattle.board.specs.Limits.{edge, codes, most, parts}
 use Rattle.board.specs.Measures.{MeasureLaws}
 use Rattle.board.specs.Distances.{distance, far, Bounds}

@@ -28,7 +28,7 @@ use Rattle.search.proofs.Counting.{counted_under, counted_on_board}
 use Rattle.search.proofs.Fronts.{Covers, covers_next, weight_pos, fifth}
 use Rattle.search.proofs.Hunting.{beyond_under, beyond_more}
 use Rattle.search.proofs.Piled.{piled_each, piled_sum}
-use Rattle.search.specs.NeighbourLaws.{neighbours_are_ordered}
+use Rattle.search.specs.NeighbourFacts.{neighbours_are_ordered}
 
 -- what waits: in order, with the right amounts, and nothing on the board is left out
 pub record Waits (l : ℕ) (near : ℕ → ℕ → ℕ) (D : ℕ → Type 0) (v : WaitingList Neighbour) : Type 0 where

@@ -1,7 +1,7 @@
 pub mod Orders
 pub mod WaitingLists
 pub mod Neighbours
-pub mod NeighbourLaws
+pub mod NeighbourFacts
 pub mod Descents
 pub mod Piles
 pub mod Stacks

@@ -1,7 +1,7 @@
 // Squares of B that wait to be looked into, and their order.
 ghost use Rattle.std.specs.Prelude.{◌≡◌, IsSomeAnd, Some, refl};
 ghost use Rattle.search.specs.Neighbours.{before, first_code, neighbours, NeighboursAreOrdered};
-ghost use Rattle.search.specs.NeighbourLaws.{ties};
+ghost use Rattle.search.specs.NeighbourFacts.{ties};
 ghost use Rattle.std.specs.Cmp.{partial_order_from_agreeing_total};
 
 use board::measure::Amount;

@@ -5,7 +5,7 @@ use Rattle.board.specs.Morton.{x_of, y_of, code}
 use Rattle.board.specs.Spans.{first, last}
 use Rattle.board.specs.Squares.{OnBoard, Inside}
 use Rattle.board.proofs.Blocks.{squares_are_blocks}
-use Rattle.board.specs.CodeLaws.Codes.{codes_are_exact}
+use Rattle.board.specs.CodeFacts.Codes.{codes_are_exact}
 
 module _ (l n : ℕ) (b : OnBoard l n) where
   pub columns_ordered : first l (x_of n) ≤ last l (x_of n)

@@ -1,5 +1,5 @@
 -- Exact stores: a square of the board counts where it shares a cell with the set held, and is empty elsewhere.
-use Rattle.std.specs.Prelude.{◌≡◌, ℕ, ◌-◌, ◌/◌, ◌^◌, ◌<◌, Bool, false, cond, ◌&&◌, ◌||◌, List, [], ◌∷◌, ◌==◌, ◌≢◌, nat_le, nat_lt}
+use Rattle.std.specs.Prelude.{ℕ, ◌-◌, ◌/◌, ◌^◌, ◌<◌, Bool, false, cond, ◌&&◌, ◌||◌, List, [], ◌∷◌, ◌==◌, ◌≢◌, nat_le, nat_lt}
 use Rattle.board.specs.Limits.{top, parts, codes}
 use Rattle.board.specs.Squares.{OnBoard, Inside}
 use Rattle.store.specs.declared.store.Answer.{Answer}

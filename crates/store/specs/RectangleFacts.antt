@@ -6,7 +6,7 @@ use Rattle.std.proofs.lemmas.Bool.{true≢false, leb-true, le-leb, leb-false, an
 use Rattle.board.specs.Morton.{x_of, y_of, code}
 use Rattle.board.specs.Spans.{first, last}
 use Rattle.board.specs.Squares.{OnBoard, Inside}
-use Rattle.board.specs.CodeLaws.Codes.{codes_are_exact}
+use Rattle.board.specs.CodeFacts.Codes.{codes_are_exact}
 use Rattle.store.specs.declared.rectangle.Rectangle.{Rectangle}
 use Rattle.store.specs.Stores.{StoreFacts}
 use Rattle.store.specs.Exact.{Shares, Exactly, on_board}

@@ -6,7 +6,7 @@ use Rattle.std.proofs.lemmas.Bool.{leb-true, le-leb}
 use Rattle.board.specs.Morton.{x_of, y_of, code}
 use Rattle.board.specs.Spans.{first, last}
 use Rattle.board.specs.Squares.{OnBoard}
-use Rattle.board.specs.CodeLaws.Codes.{codes_are_exact}
+use Rattle.board.specs.CodeFacts.Codes.{codes_are_exact}
 use Rattle.store.specs.Stores.{StoreFacts}
 use Rattle.store.specs.Exact.{Shares, Exactly}
 use Rattle.store.specs.BlockFacts.{rows_ordered, cell_of, ends_of}

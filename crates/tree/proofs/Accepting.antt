@@ -1,6 +1,6 @@
 -- What is opened are the bits of sets, and nothing else.
-use Rattle.std.proofs.Common.{◌≡◌, ℕ, ◌<◌, ◌≤◌, List, ◌++◌, sym, refl, ap, ◌∙◌, subst, ap₂, arith}
-use Rattle.tree.specs.Bitmaps.{bits, cells, encode_t, encode_l, Valid}
+use Rattle.std.proofs.Common.{◌≡◌, ℕ, List, sym, ◌∙◌, subst, ap₂, arith}
+use Rattle.tree.specs.Bitmaps.{bits, cells, encode_t, Valid}
 use Rattle.tree.specs.Faults.{TreeBreaks}
 use Rattle.tree.specs.Faults.TreeBreaks.{height, size, levels, hollow, spare_t, spare_l, short, wrong}
 use Rattle.tree.specs.Openings.{BitsOf, Opens}

@@ -1,15 +1,14 @@
 -- The bits of bytes, and how many are 1.
-use Rattle.std.proofs.Common.{◌≡◌, ℕ, zero, suc, ◌+◌, ◌-◌, ◌*◌, ◌/◌, ◌%◌, ◌^◌, ◌<◌, ◌≤◌, Bool, true, false, cond, eqb, ◌⊎◌, List, [], ◌∷◌, ◌++◌, map, length, get_or, take, drop, sym, refl, ap, ◌∙◌, subst, ap₂, inl, inr, add-zero, add_assoc, mod-lt, mod-eq_of_lt, add_comm, pow-suc, mul-one, add-one, arith, pow_pos}
+use Rattle.std.proofs.Common.{◌≡◌, ℕ, zero, suc, ◌+◌, ◌-◌, ◌*◌, ◌/◌, ◌%◌, ◌^◌, ◌<◌, ◌≤◌, Bool, true, false, cond, eqb, List, [], ◌∷◌, length, get_or, take, sym, refl, ap, ◌∙◌, ap₂, add-zero, add_assoc, mod-lt, mod-eq_of_lt, add_comm, pow-suc, arith, pow_pos}
 use native.Mathlib.Nat.{div-div-eq-div-mul, div-eq_of_lt, mod-one}
 use lib.Pow.{mod-pow-add}
 use lib.Count as count
-use Rattle.std.specs.List.{range_with_len}
 use Rattle.std.proofs.lemmas.List.FromFn.{length-map-range_with_len, get_or-map-range_with_len, take-map-range_with_len, map-range_with_len_more}
-use Rattle.std.proofs.lemmas.Bool.{eq-eqb, ne_eqb, eqb-false}
+use Rattle.std.proofs.lemmas.Bool.{eqb-false}
 use Rattle.tree.specs.Bitmaps.{bit, bits, ones}
 use lib.Bits.{bit_and}
 use Rattle.std.proofs.lemmas.Nat.{one_shl, and_mask}
-use Rattle.tree.specs.Reader.{ones_before, Directory, Spared}
+use Rattle.tree.specs.Reader.{ones_before, Spared}
 use Rattle.tree.proofs.Walks.{ones-append}
 
 pub length-bits : (bytes : List ℕ) (n : ℕ) → length (bits bytes n) ≡ n

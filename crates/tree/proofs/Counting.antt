@@ -1,14 +1,13 @@
 -- Counting the blocks of all levels in one pass over the cells.
-use Rattle.std.proofs.Common.{◌≡◌, ℕ, zero, suc, ◌+◌, ◌-◌, ◌*◌, ◌/◌, ◌^◌, ◌<◌, ◌≤◌, Bool, true, false, cond, ltb, ◌⊎◌, List, [], ◌∷◌, length, get_or, sym, refl, ap, ◌∙◌, subst, ap₂, inl, inr, add-zero, div-one, arith}
+use Rattle.std.proofs.Common.{◌≡◌, ℕ, zero, suc, ◌+◌, ◌-◌, ◌*◌, ◌/◌, ◌^◌, ◌<◌, ◌≤◌, cond, ltb, ◌⊎◌, List, [], ◌∷◌, length, get_or, sym, refl, ap, ◌∙◌, subst, inl, inr, add-zero, div-one, arith}
 use native.Mathlib.Nat.{div-eq_of_lt}
-use Rattle.std.specs.List.{AllByRecursion as All}
 use Rattle.std.proofs.lemmas.Bool.{cases_lt, lt-ltb, le-ltb}
 use Rattle.tree.specs.Bitmaps.{Climbs, squares, upper, encode_t, encode_l}
 use Rattle.tree.specs.Laws.{Listed}
 use Rattle.tree.specs.Passes.{emit, Joins}
 use Rattle.tree.proofs.Standing.{two_four}
 use Rattle.tree.proofs.Walks.{up_one}
-use Rattle.tree.proofs.Totals.{total, total_none, total_more}
+use Rattle.tree.proofs.Totals.{total}
 use Rattle.tree.proofs.Passing.{Begun, begun_same, begun_new, begun_end}
 use Rattle.tree.proofs.Whole.{count_next, count_root, lower_is}
 

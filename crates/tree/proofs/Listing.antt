@@ -1,5 +1,5 @@
 -- Lists that rise, by their places and by their parts.
-use Rattle.std.proofs.Common.{◌≡◌, ℕ, zero, suc, ◌+◌, ◌^◌, ◌<◌, ◌≤◌, List, [], ◌∷◌, length, get_or, subst, arith}
+use Rattle.std.proofs.Common.{◌≡◌, ℕ, suc, ◌+◌, ◌^◌, ◌<◌, List, [], ◌∷◌, length, get_or, subst, arith}
 use Rattle.std.specs.List.{AllByRecursion as All}
 use Rattle.board.specs.Lists.{Rising}
 use Rattle.tree.specs.Bitmaps.{Climbs}

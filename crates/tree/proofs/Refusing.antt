@@ -1,9 +1,9 @@
 -- Which rule is broken first.
-use Rattle.std.proofs.Common.{◌≡◌, ℕ, ◌+◌, ◌*◌, ◌/◌, ◌<◌, ◌≤◌, ◌⊎◌, List, ◌++◌, length, get_or, sym, subst, inl, inr, arith}
+use Rattle.std.proofs.Common.{◌≡◌, ℕ, ◌*◌, ◌/◌, ◌<◌, ◌≤◌, ◌⊎◌, List, ◌++◌, length, get_or, subst, inl, inr, arith}
 use Rattle.tree.specs.Bitmaps.{AllFilledBelow, bits, Sized}
 use Rattle.tree.specs.Faults.{First, High, Hollow, TreeBreaks}
 use Rattle.tree.specs.Faults.TreeBreaks.{height, size, levels, hollow, spare_t, spare_l, short, wrong}
-use Rattle.tree.specs.Reader.{Bitmap, Directory, ones_before, spacing, Spared}
+use Rattle.tree.specs.Reader.{Bitmap, ones_before, spacing, Spared}
 
 -- no rule before k is broken
 abbrev pub Clear : (ℕ → ℕ → Type 0) → ℕ → Type 0

@@ -1,12 +1,10 @@
 -- Where the levels end.
-use Rattle.std.proofs.Common.{◌≡◌, ℕ, zero, suc, ◌+◌, ◌-◌, ◌*◌, ◌/◌, ◌%◌, ◌<◌, ◌≤◌, Bool, true, false, eqb, ◌⊎◌, List, [], ◌∷◌, ◌++◌, length, get_or, take, drop, set, Decides, sym, refl, ap, ◌∙◌, subst, ap₂, inl, inr, arith, length-append}
+use Rattle.std.proofs.Common.{◌≡◌, ℕ, zero, suc, ◌+◌, ◌-◌, ◌*◌, ◌%◌, ◌<◌, ◌≤◌, Bool, eqb, ◌⊎◌, List, [], ◌∷◌, ◌++◌, length, get_or, take, drop, set, Decides, sym, refl, ap, ◌∙◌, inl, inr, arith, length-append}
 use Rattle.std.proofs.lemmas.List.{get_or-set_same, get_or-set_other}
 use Rattle.std.proofs.lemmas.Bool.{eq-eqb, eqb-true, cases_eq}
 use Rattle.tree.specs.Bitmaps.{bits, ones, demanded, Sized}
 use Rattle.tree.specs.Reader.{ones_before}
-use Rattle.tree.proofs.Walks.{ones-append}
 use Rattle.tree.proofs.Bytes.{length-bits}
-use Rattle.tree.proofs.Standing.{rank_in_t}
 
 pub take-add : (a b : ℕ) (bs : List Bool) → ones (take (a + b) bs) ≡ ones (take a bs) + ones (take b (drop a bs))
 take-add zero b bs = let e : 0 + b ≡ b = omega arith in ap (λ n. ones (take n bs)) e ∙ omega arith

@@ -1,5 +1,5 @@
 -- Which rule is broken first, and the number and the place of each fault.
-use Rattle.std.specs.Prelude.{◌≡◌, ℕ, ◌+◌, ◌*◌, ◌/◌, ◌^◌, ◌<◌, ◌≤◌, ◌⊎◌, List, ◌++◌, length, ◌≢◌, slice_index}
+use Rattle.std.specs.Prelude.{◌≡◌, ℕ, ◌*◌, ◌/◌, ◌^◌, ◌<◌, ◌≤◌, ◌⊎◌, List, ◌++◌, length, ◌≢◌, slice_index}
 use Rattle.board.specs.Limits.{top, parts}
 use Rattle.board.specs.Lists.{ListRefused, list_numbered}
 use Rattle.tree.specs.declared.fault.Part.{Part}
@@ -9,7 +9,7 @@ use Rattle.tree.specs.declared.fault.TreeFault.TheVariants.{Height, Size, Levels
 use Rattle.tree.specs.declared.fault.WriterFault.{WriterFault}
 use Rattle.tree.specs.declared.fault.WriterFault.TheVariants.{Height as NoHeight, List as OfList, TooLarge, NoRoom}
 use Rattle.tree.specs.Bitmaps.{bits, encode_t, encode_l, Filled, Sized}
-use Rattle.tree.specs.Reader.{Bitmap, Directory, ones_before, spacing, most_bits, Spared}
+use Rattle.tree.specs.Reader.{Bitmap, ones_before, spacing, most_bits, Spared}
 
 -- T comes first
 abbrev pub part_place : Part → ℕ

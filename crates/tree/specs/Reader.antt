@@ -1,5 +1,5 @@
 -- What a reader of a tree keeps: two bitmaps, and how many ones stand before each 512th bit of the first.
-use Rattle.std.specs.Prelude.{◌≡◌, ℕ, ◌+◌, ◌*◌, ◌/◌, ◌<◌, ◌≤◌, Bool, true, false, List, length, slice_index}
+use Rattle.std.specs.Prelude.{◌≡◌, ℕ, ◌+◌, ◌*◌, ◌/◌, ◌<◌, ◌≤◌, false, List, length, slice_index}
 use Rattle.tree.specs.Bitmaps.{bit, bits, ones}
 
 -- the most bits that a bitmap may have

@@ -1,5 +1,5 @@
 -- How many cells lie in a square.
-use Rattle.std.specs.Prelude.{ℕ, ◌+◌, ◌/◌, ◌^◌, Bool, cond, List, [], ◌∷◌, ◌==◌}
+use Rattle.std.specs.Prelude.{ℕ, ◌+◌, ◌/◌, ◌^◌, cond, List, [], ◌∷◌, ◌==◌}
 use Rattle.board.specs.Limits.{parts}
 use Rattle.store.specs.Exact.{on_board}
 

@@ -1,5 +1,5 @@
 -- Trees worked out by hand.
-use Rattle.std.specs.Prelude.{◌≡◌, ℕ, List, [], ◌∷◌}
+use Rattle.std.specs.Prelude.{◌≡◌, [], ◌∷◌}
 use Rattle.tree.specs.Bitmaps.{bits, cells, encode_t, encode_l, Valid}
 use Rattle.tree.specs.Openings.{Opens}
 use Rattle.tree.specs.Writing.{Writable}

@@ -1,8 +1,8 @@
-use Rattle.std.proofs.Common.{◌≡◌, ℕ, sym, ◌∙◌, ap₂, arith}
+use Rattle.std.proofs.Common.{◌≡◌, sym, ◌∙◌, ap₂, arith}
 use Rattle.board.specs.Distances.{distance}
 use Rattle.board.specs.Spans.{gap}
 use Rattle.board.specs.Morton.{code, x_of, y_of}
-use Rattle.board.specs.CodeLaws.Codes.{codes_are_exact}
+use Rattle.board.specs.CodeFacts.Codes.{codes_are_exact}
 use Rattle.board.proofs.amounts.distance.Goals as goal
 
 pub returns : goal.returns

@@ -1,4 +1,4 @@
-use Rattle.std.proofs.Common.{◌≡◌, refl, arith}
+use Rattle.std.proofs.Common.{◌≡◌, arith}
 use Rattle.board.specs.Distances.{far}
 use Rattle.board.proofs.Bounded.{bounds}
 use Rattle.board.proofs.amounts.far.Goals as goal

@@ -1,5 +1,5 @@
-use Rattle.board.specs.CodeLaws.Codes.{codes_are_exact}
-use Rattle.board.specs.CodeLaws.Ordered.{cell_order_is_code_order}
+use Rattle.board.specs.CodeFacts.Codes.{codes_are_exact}
+use Rattle.board.specs.CodeFacts.Ordered.{cell_order_is_code_order}
 use Rattle.board.proofs.cell.codes_are_exact.Goals as goal
 
 pub returns : goal.returns

@@ -1,4 +1,4 @@
-use Rattle.comparison.specs.SuspectLaws.{suspects_are_ordered}
+use Rattle.comparison.specs.SuspectFacts.{suspects_are_ordered}
 use Rattle.comparison.proofs.suspect.suspects_are_ordered.Goals as goal
 
 pub returns : goal.returns

@@ -1,6 +1,5 @@
-use Rattle.std.proofs.Common.{◌≡◌, ℕ, get_or, vec_items, ◌∙◌, ap₂, rules}
+use Rattle.std.proofs.Common.{vec_items, ◌∙◌, ap₂, rules}
 use Rattle.board.specs.Morton.{code}
-use Rattle.job.specs.Records.{low_first}
 use Rattle.job.proofs.Reading.{one_more}
 use Rattle.job.proofs.records.codes_of.Goals as goal
 

@@ -1,9 +1,9 @@
-use Rattle.std.proofs.Common.{◌≡◌, ℕ, ◌+◌, ◌<◌, ◌≤◌, length, get_or, Some, sym, refl, ap, ◌∙◌, subst, inl, ⊎_elim, arith}
+use Rattle.std.proofs.Common.{◌≡◌, ◌+◌, length, get_or, sym, refl, ap, ◌∙◌, subst, inl, arith}
 use Rattle.std.proofs.lemmas.Bool.Decides.{not_from_Decides}
 use Rattle.board.specs.Distances.{distance}
 use Rattle.board.specs.Lists.{Has}
 use Rattle.scan.proofs.Decoded.{by_codes}
-use Rattle.scan.proofs.Loops.{Nearby, Past, Low, IsNearer, nearby_taken, nearby_kept, past_more, past_none, low_kept, low_taken, low_all}
+use Rattle.scan.proofs.Loops.{Nearby, Past, IsNearer, nearby_taken, nearby_kept, past_more, low_kept, low_taken}
 use Rattle.scan.specs.Pairs.{round}
 use Rattle.scan.proofs.Turns.{round-has, met_has, has_met}
 use Rattle.scan.proofs.worst.worst.Goals as goal

@@ -1,7 +1,7 @@
 use Rattle.std.proofs.Common.{◌≡◌, None, sym, refl, ◌∙◌, subst, ap₂, arith}
 use Rattle.board.specs.Findings.{code_of}
 use Rattle.board.specs.Morton.{code}
-use Rattle.board.specs.CodeLaws.Codes.{codes_are_exact}
+use Rattle.board.specs.CodeFacts.Codes.{codes_are_exact}
 use Rattle.search.specs.declared.first.Scout.{Scout}
 use Rattle.search.specs.Firsts.{FirstHeld, FoundFirst, Searched}
 use Rattle.search.proofs.Counting.{counted_under}

@@ -1,6 +1,5 @@
 use Rattle.std.proofs.Common.{◌<◌, [], ◌∷◌, None, sym, refl, ◌∙◌, subst, arith}
 use Rattle.std.proofs.ByRecursion.{all_shuffled}
-use Rattle.board.specs.Distances.{near}
 use Rattle.board.proofs.Bounded.{bounds}
 use Rattle.board.specs.Limits.{parts}
 use Rattle.search.specs.declared.hunt.Hunt.{Hunt}

@@ -1,4 +1,4 @@
-use Rattle.search.specs.NeighbourLaws.{neighbours_are_ordered}
+use Rattle.search.specs.NeighbourFacts.{neighbours_are_ordered}
 use Rattle.search.proofs.neighbour.neighbours_are_ordered.Goals as goal
 
 pub returns : goal.returns

@@ -1,4 +1,4 @@
-use Rattle.std.proofs.Common.{◌≡◌, ◌+◌, ◌*◌, length, true, false, refl, subst, add-zero, arith}
+use Rattle.std.proofs.Common.{◌+◌, ◌*◌, length, true, false, refl, subst, add-zero, arith}
 use Rattle.std.proofs.HeapSift as sifts
 use Rattle.std.specs.BinaryHeap.Sift.{IsGreaterChild}
 use Rattle.search.specs.Orders.{back, turned}

@@ -1,6 +1,5 @@
 use Rattle.search.proofs.Bags.{drawn_out}
 use Rattle.search.proofs.waiting.pull.Goals as goal
-use Rattle.std.proofs.Common.{◌≡◌}
 
 pub returns : goal.returns
 returns g c =

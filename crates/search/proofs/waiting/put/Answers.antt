@@ -1,6 +1,5 @@
 use Rattle.search.proofs.Bags.{placed}
 use Rattle.search.proofs.waiting.put.Goals as goal
-use Rattle.std.proofs.Common.{◌≡◌}
 
 pub returns : goal.returns
 returns g c =

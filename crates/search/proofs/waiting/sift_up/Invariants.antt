@@ -1,7 +1,7 @@
 use Rattle.std.proofs.HeapSift as sifts
 use Rattle.std.specs.List.Sorted.{IsPermutation}
 use Rattle.search.specs.Orders.{back, turned}
-use Rattle.std.proofs.Common.{◌≡◌, ◌<◌, ◌≤◌, length}
+use Rattle.std.proofs.Common.{◌<◌, ◌≤◌, length}
 use Rattle.search.proofs.waiting.sift_up.Given as goal
 
 abbrev pub invariant-loop-at : goal.invariant-loop-at

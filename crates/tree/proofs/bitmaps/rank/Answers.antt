@@ -1,4 +1,4 @@
-use Rattle.std.proofs.Common.{◌*◌, ◌/◌, arith}
+use Rattle.std.proofs.Common.{◌/◌, arith}
 use Rattle.tree.proofs.Bytes.{ones_before_le}
 use Rattle.tree.proofs.bitmaps.rank.Goals as goal
 

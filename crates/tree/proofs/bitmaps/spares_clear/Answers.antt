@@ -1,6 +1,6 @@
 use Rattle.std.proofs.lemmas.Bool.{eqb-true, eq-eqb}
 use Rattle.std.proofs.Common.{◌/◌, ◌<◌, get_or, arith}
-use Rattle.tree.proofs.Bytes.{spares_are, are_spares, no_spares}
+use Rattle.tree.proofs.Bytes.{spares_are, are_spares}
 use Rattle.tree.proofs.bitmaps.spares_clear.Goals as goal
 
 pub returns-else-bits-eq0 : goal.returns-else-bits-eq0

@@ -1,4 +1,4 @@
-use Rattle.std.proofs.Common.{◌≡◌, ◌+◌, ◌-◌, ◌*◌, ◌/◌, ◌<◌, ◌≤◌, length, set, sym, refl, ap, ◌∙◌, arith, length-set}
+use Rattle.std.proofs.Common.{◌+◌, ◌*◌, ◌<◌, length, set, refl, arith, length-set}
 use Rattle.tree.proofs.Bytes.{ones_before_le}
 use Rattle.tree.proofs.Sizes.{total_more, counts_more, counts_kept, counts-first}
 use Rattle.tree.proofs.directory.fill_counts.Goals as goal

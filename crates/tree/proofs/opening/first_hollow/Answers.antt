@@ -1,4 +1,4 @@
-use Rattle.std.proofs.Common.{◌≡◌, ℕ}
+use Rattle.std.proofs.Common.{◌≡◌}
 use Rattle.tree.proofs.Hollows.{hollow_t, hollow_l, filled_all}
 use Rattle.tree.proofs.opening.first_hollow.Goals as goal
 use Rattle.tree.proofs.opening.first_hollow.Goals.{then-t_bits-eq0, else-t_bits-eq0}

@@ -1,4 +1,4 @@
-use Rattle.std.proofs.Common.{◌≡◌, ◌*◌, ◌/◌, ◌^◌, ◌<◌, get_or, sym, ap, ◌∙◌, subst, arith, below_more}
+use Rattle.std.proofs.Common.{◌*◌, ◌/◌, ◌^◌, get_or, sym, ap, ◌∙◌, below_more}
 use Rattle.tree.proofs.Exact.{shifted_out, shifted_in}
 use Rattle.tree.proofs.writer.first_too_large.Goals as goal
 

@@ -1,4 +1,4 @@
-use Rattle.std.proofs.Common.{◌≡◌, ℕ, ◌*◌, ◌/◌, ◌^◌, ◌<◌, ◌≤◌, sym, ap, ◌∙◌, arith, below_more}
+use Rattle.std.proofs.Common.{◌≡◌, ◌/◌, ◌^◌, ◌≤◌, sym, ap, ◌∙◌, arith, below_more}
 use Rattle.tree.proofs.Standing.{two_four}
 use Rattle.tree.proofs.writer.joined_at.Goals as goal
 

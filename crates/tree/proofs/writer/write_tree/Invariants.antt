@@ -1,4 +1,4 @@
-use Rattle.std.proofs.Common.{◌<◌, length}
+use Rattle.std.proofs.Common.{◌<◌}
 use Rattle.tree.proofs.Whole.{Written}
 use Rattle.tree.proofs.writer.write_tree.Given as goal
 

@@ -1,7 +1,7 @@
-use Rattle.std.proofs.Common.{◌≡◌, ℕ, ◌*◌, ◌%◌, ◌^◌, sym, ◌∙◌, ap₂, arith}
+use Rattle.std.proofs.Common.{◌≡◌, ℕ, ◌*◌, ◌%◌, ◌^◌, ◌∙◌, ap₂, arith}
 use lib.Bits.{bit_or}
-use Rattle.board.specs.Morton.{code, Interleaved}
-use Rattle.board.specs.CodeLaws.Codes.{woven, codes_are_exact}
+use Rattle.board.specs.Morton.{code}
+use Rattle.board.specs.CodeFacts.Codes.{woven, codes_are_exact}
 use Rattle.board.proofs.cell.Cell.code.Goals as goal
 
 pub returns : goal.returns

@@ -1,6 +1,6 @@
 use Rattle.std.proofs.Common.{◌≡◌}
 use Rattle.board.specs.Morton.{x_of, y_of}
-use Rattle.board.specs.CodeLaws.Codes.{interleaved_of}
+use Rattle.board.specs.CodeFacts.Codes.{interleaved_of}
 use Rattle.board.proofs.cell.Cell.from_code.Goals as goal
 
 pub returns : goal.returns

@@ -1,4 +1,4 @@
-use Rattle.std.proofs.Common.{◌≡◌, ◌*◌, ◌%◌, ◌^◌, refl, arith}
+use Rattle.std.proofs.Common.{refl, arith}
 use Rattle.board.specs.Squares.{OnBoard}
 use Rattle.board.proofs.Boards.{code_fits, code_shifted, first_inside, first-least}
 use Rattle.board.proofs.square.Square.first_code.Goals as goal

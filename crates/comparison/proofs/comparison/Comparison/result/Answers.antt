@@ -1,6 +1,6 @@
 use Rattle.std.proofs.Common.{◌≡◌, true, false, sym, refl, ap, ◌∙◌, subst, ap₂, arith}
 use Rattle.board.specs.Morton.{code}
-use Rattle.board.specs.CodeLaws.Codes.{codes_are_exact}
+use Rattle.board.specs.CodeFacts.Codes.{codes_are_exact}
 use Rattle.comparison.specs.Calls.Results.{result_early}
 use Rattle.comparison.proofs.Calling.{did_nothing, did_result, did_wait}
 use Rattle.comparison.proofs.comparison.Comparison.result.Goals as goal

@@ -2,7 +2,7 @@ use Rattle.std.proofs.Common.{◌≡◌, Bool, true, false, not, sym, refl, ap, 
 use Rattle.std.proofs.lemmas.Bool.{false≢true, both_ways}
 use Rattle.board.specs.Morton.{code}
 use Rattle.board.specs.Squares.{Inside}
-use Rattle.board.specs.CodeLaws.Codes.{codes_are_exact}
+use Rattle.board.specs.CodeFacts.Codes.{codes_are_exact}
 use Rattle.store.specs.Stores.{counts, Holds}
 use Rattle.store.specs.declared.store.Answer.TheVariants.{Empty}
 use Rattle.comparison.proofs.Diving.{meets_square, meets_empty, meets_other, meets_cell}

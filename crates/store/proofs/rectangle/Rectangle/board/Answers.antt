@@ -1,5 +1,5 @@
 use Rattle.std.proofs.Common.{refl, arith}
-use Rattle.board.specs.CodeLaws.Codes.{x_lt, y_lt}
+use Rattle.board.specs.CodeFacts.Codes.{x_lt, y_lt}
 use Rattle.store.specs.ExactFacts.{set_of}
 use Rattle.store.specs.RectangleFacts.{exactly_rectangle, rectangle_facts}
 use Rattle.store.proofs.rectangle.Rectangle.board.Goals as goal

@@ -1,4 +1,4 @@
-use Rattle.std.proofs.Common.{◌≡◌, ◌^◌, ◌<◌, ◌≤◌, sym, ap, ◌∙◌, subst, arith, pow_pos}
+use Rattle.std.proofs.Common.{◌≡◌, sym, ◌∙◌, subst, arith}
 use Rattle.tree.specs.Held.{cells_of}
 use Rattle.tree.proofs.Exact.{listed}
 use Rattle.tree.proofs.Walks.{four_pos}

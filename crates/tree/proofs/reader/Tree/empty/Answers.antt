@@ -1,6 +1,6 @@
 use Rattle.std.proofs.Common.{◌≡◌, ℕ, ◌*◌, ◌/◌, ◌%◌, ◌^◌, ◌<◌, ◌≤◌, false, eqb, [], ◌∷◌, get_or, refl, ap, ◌∙◌, arith, lit<, lit≤, pow_pos}
 use native.Mathlib.Nat.{div-eq_of_lt}
-use Rattle.tree.specs.Bitmaps.{bit, bits, demanded, below}
+use Rattle.tree.specs.Bitmaps.{bit, demanded, below}
 use Rattle.tree.specs.Reader.{ones_before}
 use Rattle.tree.proofs.reader.Tree.empty.Goals as goal
 

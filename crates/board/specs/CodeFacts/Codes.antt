@@ -1,10 +1,10 @@
 -- Codes are exact, and what a larger square's number says of its place.
-use Rattle.std.proofs.Common.{◌≡◌, ℕ, zero, suc, ◌+◌, ◌*◌, ◌/◌, ◌%◌, ◌^◌, ◌<◌, ◌≤◌, sym, refl, ap, ◌∙◌, ap₂, lt_of_lt_of_le, mod-eq_of_lt, mul_comm, pow-suc, div-one, arith}
+use Rattle.std.proofs.Common.{◌≡◌, ℕ, zero, suc, ◌+◌, ◌*◌, ◌/◌, ◌%◌, ◌^◌, ◌<◌, ◌≤◌, sym, ap, ◌∙◌, ap₂, lt_of_lt_of_le, mod-eq_of_lt, mul_comm, pow-suc, div-one, arith}
 use native.Mathlib.Nat.{div-div-eq-div-mul, pow-le-pow_right}
 use lib.Bits.{bit_or}
 use Rattle.board.specs.Morton.{bit, digits, x_of, y_of, code, Interleaved, CodesAreExact}
-use Rattle.board.specs.CodeLaws.Words.{half_bit}
-use Rattle.board.specs.CodeLaws.Digits.{evens, spaced, digits_lt, digits_step, digits-all, lt-pow, evens_one, evens_two, spaced-evens, spaced_third, spaced-or, evens_bit}
+use Rattle.board.specs.CodeFacts.Words.{half_bit}
+use Rattle.board.specs.CodeFacts.Digits.{evens, spaced, digits_lt, digits_step, digits-all, lt-pow, evens_one, evens_two, spaced-evens, spaced_third, spaced-or, evens_bit}
 
 quot_quot : (n a b : ℕ) → n / a / b ≡ n / b / a
 quot_quot n a b = div-div-eq-div-mul n a b ∙ ap (λ (m : ℕ). n / m) (mul_comm a b) ∙ sym (div-div-eq-div-mul n b a)

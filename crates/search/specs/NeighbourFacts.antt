@@ -3,7 +3,7 @@ use Rattle.std.proofs.Common.{◌≡◌, ◌==◌, ◌&&◌, is_eq, ℕ, ◌*◌
 use Rattle.std.specs.Cmp.{nat_cmp_is, ranks}
 use Rattle.std.specs.Ordering.{MatchOrdering, ordering_then, nat_cmp}
 use Rattle.std.proofs.lemmas.Bool.Decides.{Decides-and, Decides-eqb, Decides-like}
-use Rattle.board.specs.OrderLaws.{ties_where_equal, squares_equal}
+use Rattle.board.specs.OrderFacts.{ties_where_equal, squares_equal}
 use Rattle.board.specs.Limits.{parts, top}
 use Rattle.board.proofs.Boards.{four_positive}
 use Rattle.board.specs.declared.square.Square.{Square}

@@ -3,11 +3,11 @@ use Rattle.std.proofs.Common.{◌≡◌, ◌==◌, ◌&&◌, ℕ, ◌<◌, Order
 use Rattle.std.specs.Cmp.{IsTotalOrder, nat_cmp_total, ranks}
 use Rattle.std.specs.Ordering.{MatchOrdering}
 use Rattle.std.proofs.lemmas.Bool.Decides.{Decides-and, Decides-eqb, Decides-like}
-use Rattle.board.specs.OrderLaws.{ties_where_equal}
+use Rattle.board.specs.OrderFacts.{ties_where_equal}
 use Rattle.board.specs.declared.cell.Cell.{Cell}
 use Rattle.board.specs.CellOrder.{by_code, CellOrderIsCodeOrder}
 use Rattle.board.specs.Morton.{code, x_of, y_of}
-use Rattle.board.specs.CodeLaws.Codes.{codes_are_exact}
+use Rattle.board.specs.CodeFacts.Codes.{codes_are_exact}
 
 -- the order of codes, of what has a code
 pub total : IsTotalOrder by_code
