@@ -1,7 +1,7 @@
 -- The parts of a step, joined.
 use Rattle.std.proofs.Common.{◌≡◌, ℕ, suc, ◌+◌, ◌-◌, ◌*◌, ◌^◌, ◌<◌, ◌≤◌, min, Bool, true, false, ◌⊎◌, List, [], ◌∷◌, ◌++◌, length, sum_by, sym, refl, ap, ◌∙◌, subst, inl, inr, append_assoc, add-one, arith, length-append}
 use Rattle.std.specs.List.Sorted.{IsPermutation}
-use Rattle.std.specs.List.{AllByRecursion as All}
+use Rattle.std.specs.List.{AllByRecursion}
 use Rattle.std.proofs.lemmas.List.Sorted.{IsPermutation-refl, IsPermutation-sym, IsPermutation-trans, IsPermutation-cons, length_permutation, sum_by-IsPermutation}
 use Rattle.std.proofs.ByRecursion.{all_shuffled}
 use Rattle.std.proofs.lemmas.List.Sums.{sum_by-cons}
@@ -178,7 +178,7 @@ module _ {A B M : Type 0} (film : A → ℕ → ℕ → Answer) (drawing : B →
     same_world = ap (λ n. over film drawing amount n t) (places' ∙ places) ∙ over_places (room c.suspects) u t s' ∙ over_places (room c.suspects) c.trial u s;
     in_order = λ i. record {
       heap = (go b add).0;
-      board = subst (All On) (sym (go b add).1) (subst (λ q. OnBoard q.level q.number) (sym whole) (omega arith, omega arith), tt);
+      board = subst (AllByRecursion On) (sym (go b add).1) (subst (λ q. OnBoard q.level q.number) (sym whole) (omega arith, omega arith), tt);
       idle = s'.idle (s.idle i.idle);
     };
     witness = refl;

@@ -2,7 +2,7 @@
 use Rattle.std.proofs.Common.{◌≡◌, ℕ, ◌+◌, ◌-◌, ◌<◌, ◌≤◌, max, Bool, true, false, ◌⊎◌, List, [], ◌∷◌, ◌++◌, length, Some, None, sym, refl, ap, ◌∙◌, subst, inl, inr, arith}
 use Rattle.std.specs.Ordering.{is_lt}
 use Rattle.std.specs.List.Sorted.{IsPermutation}
-use Rattle.std.specs.List.{ContainsAt as Has, AllByRecursion as All}
+use Rattle.std.specs.List.{ContainsAt as Has, AllByRecursion}
 use Rattle.std.proofs.ByRecursion.{all-has, all_has_itself, All-weaker, all_shuffled}
 use Rattle.std.proofs.lemmas.List.Sorted.{length_permutation}
 use Rattle.std.proofs.lemmas.Bool.{cases_lt, false≢true}
@@ -108,7 +108,7 @@ module _ {A B M : Type 0} (film : A → ℕ → ℕ → Answer) (ff : (a : A) �
     did_no_step t =
         let e : waiting c.suspects ≡ waiting w = t.0 ∙ sym t.1 in
         did c rest Step (Refused NothingWaits) same
-        (record { heap = λ o. subst (InHeap o) e (i.heap o); board = subst (All On) e i.board; idle = i.idle })
+        (record { heap = λ o. subst (InHeap o) e (i.heap o); board = subst (AllByRecursion On) e i.board; idle = i.idle })
         (subst (λ (xs : List Suspect). let st : State = record { begun = c.progress.begun; figures = c.trial.figures; queued = c.progress.queued; taken = c.progress.taken; waiting = xs } in Steps (world film drawing amount c) (state c) (refused 16 0) st) e (step_late b t.0))
 
   pub did_probe : (c : Comparison A B M) (u : Trial A B M) (cell : Cell) → InOrder c → c.progress.begun ≡ true → InFilm (world film drawing amount c) (code_of cell)

@@ -3,7 +3,7 @@ use Rattle.std.proofs.Common.{◌≡◌, ℕ, suc, ◌+◌, ◌-◌, ◌*◌, �
 use Rattle.std.specs.Cmp.{IsTotalOrder}
 use Rattle.std.specs.Ordering.{is_lt, ordering_reverse}
 use Rattle.std.specs.List.Sorted.{IsPermutation}
-use Rattle.std.specs.List.{ContainsAt as Has, AllByRecursion as All}
+use Rattle.std.specs.List.{ContainsAt as Has, AllByRecursion}
 use Rattle.std.proofs.ByRecursion.{all-has, all_has_itself, all_shuffled}
 use Rattle.std.proofs.lemmas.List.Sorted.{IsPermutation-refl, IsPermutation-sym, IsPermutation-trans, IsPermutation-cons, IsPermutation-swap, length_permutation, sum_by-IsPermutation}
 use Rattle.std.proofs.lemmas.List.Sums.{sum_by-cons}
@@ -117,7 +117,7 @@ not_itself : (x : Suspect) → is_lt (before x x) ≡ false
 not_itself x = ap is_lt (itself x)
 
 -- two that are first are one
-pub first_one : (x y : Suspect) (xs ys : List Suspect) → IsPermutation (x ∷ xs) (y ∷ ys) → All (λ z. is_lt (before z x) ≡ false) xs → All (λ z. is_lt (before z y) ≡ false) ys → x ≡ y
+pub first_one : (x y : Suspect) (xs ys : List Suspect) → IsPermutation (x ∷ xs) (y ∷ ys) → AllByRecursion (λ z. is_lt (before z x) ≡ false) xs → AllByRecursion (λ z. is_lt (before z y) ≡ false) ys → x ≡ y
 first_one x y xs ys s f g =
     let p = all_shuffled (λ z. is_lt (before z x) ≡ false) (x ∷ xs) (y ∷ ys) s (not_itself x, f) in
     let q = all_shuffled (λ z. is_lt (before z y) ≡ false) (y ∷ ys) (x ∷ xs) (IsPermutation-sym (x ∷ xs) (y ∷ ys) s) (not_itself y, g) in

@@ -1,7 +1,7 @@
 -- Steps to the end.
 use Rattle.std.proofs.Common.{◌≡◌, ℕ, zero, suc, ◌+◌, ◌<◌, ◌≤◌, min, true, false, List, [], ◌∷◌, ◌++◌, replicate, Some, None, sum_by, sym, refl, ap, ◌∙◌, subst, arith}
 use Rattle.board.specs.Measures.{MeasureLaws}
-use Rattle.std.specs.List.{AllByRecursion as All}
+use Rattle.std.specs.List.{AllByRecursion}
 use Rattle.std.proofs.lemmas.List.Sorted.{sum_by-IsPermutation}
 use Rattle.std.proofs.lemmas.List.Sums.{sum_by-cons}
 use Rattle.search.specs.Offers.{weight}
@@ -72,7 +72,7 @@ module _ {A B M : Type 0} (film : A → ℕ → ℕ → Answer) (drawing : B →
       let e : waiting d.suspects ≡ waiting w = t.0 ∙ sym t.1 in
       record {
         same_world = ap (λ m. over film drawing amount m d.trial) places ∙ a.same_world;
-        in_order = record { heap = λ o. subst (InHeap o) e (a.in_order.heap o); board = subst (All On) e a.in_order.board; idle = a.in_order.idle };
+        in_order = record { heap = λ o. subst (InHeap o) e (a.in_order.heap o); board = subst (AllByRecursion On) e a.in_order.board; idle = a.in_order.idle };
         begun = a.begun;
         steps = a.steps;
         many = a.many;

@@ -1,6 +1,6 @@
 -- What a step does with the square that it took, in the words of the invariant.
 use Rattle.std.proofs.Common.{◌≡◌, ℕ, zero, suc, ◌+◌, ◌-◌, ◌*◌, ◌/◌, ◌%◌, ◌^◌, ◌<◌, ◌≤◌, min, max, ◌⊎◌, List, [], ◌∷◌, ◌++◌, length, sum_by, sym, refl, ap, ◌∙◌, subst, inl, inr, le_trans, add-zero, pow-suc, mul-one, add-one, arith}
-use Rattle.std.specs.List.{AllByRecursion as All}
+use Rattle.std.specs.List.{AllByRecursion}
 use Rattle.std.proofs.lemmas.Bool.{cases_lt}
 use Rattle.std.proofs.lemmas.List.Sums.{sum_by-cons}
 use Rattle.store.specs.declared.store.Answer.{Answer}
@@ -97,13 +97,13 @@ module _ (w : World) (fs : Facts w) where
         let num : e.square.number ≡ 4 * n + k = ap (λ s. s.number) a in
         (r, (λ z. x (sym (ap (λ s. w.film s.level s.number) a) ∙ z)), omega arith)
 
-    pub picked_entries : {k : ℕ} {es : List Suspect} → Picked w f l n k es → All Entry es
+    pub picked_entries : {k : ℕ} {es : List Suspect} → Picked w f l n k es → AllByRecursion Entry es
     picked_entries none = tt
     picked_entries (pick {k = k} e p x a r i) = (entry_of e k a x r, picked_entries p)
     picked_entries (pass_empty p x) = picked_entries p
     picked_entries (pass key q p x i) = picked_entries p
 
-    pub picked_keys : (most part : ℕ) → KeyedAt w (l + 1) n most part → {k : ℕ} {es : List Suspect} → Picked w f l n k es → k ≤ 4 → All (λ s. s.key ≤ most) es
+    pub picked_keys : (most part : ℕ) → KeyedAt w (l + 1) n most part → {k : ℕ} {es : List Suspect} → Picked w f l n k es → k ≤ 4 → AllByRecursion (λ s. s.key ≤ most) es
     picked_keys m q r none h = tt
     picked_keys m q r (pick {k = k} e p x a t i) h =
         (quarter_key w fs l n k m q e.key e.partner h r (subst (λ s. KeyedAt w s.level s.number e.key e.partner) a t), picked_keys m q r p (omega arith))
@@ -125,7 +125,7 @@ module _ (w : World) (fs : Facts w) where
     picked_size (pass_empty p x) = let h = picked_size p in omega arith
     picked_size (pass key q p x i) = let h = picked_size p in omega arith
 
-    pub picked_covers : (c e : ℕ) → InFilm w c → NearestTo w c e → {k : ℕ} {es : List Suspect} → Picked w f l n k es → All (Outside c) es → (r : ℕ) → r < k → c / 4 ^ l ≡ 4 * n + r → Settled f (dist w c e) c
+    pub picked_covers : (c e : ℕ) → InFilm w c → NearestTo w c e → {k : ℕ} {es : List Suspect} → Picked w f l n k es → AllByRecursion (Outside c) es → (r : ℕ) → r < k → c / 4 ^ l ≡ 4 * n + r → Settled f (dist w c e) c
     picked_covers c e o near none h r lt q = absurd (omega arith)
     picked_covers c e o near (pick {k = k} s p x a t i) h r lt q =
         last k r lt (λ m. picked_covers c e o near p h.1 r m q)
@@ -189,7 +189,7 @@ module _ (w : World) (fs : Facts w) where
     better (opened l z i room p) k c h = h
     better (sunk {g = g} z i room t) k c h = tried_better In f g t k c h
 
-    pub covers : {es : List Suspect} {g : Figures} → Handled w s free f es g → Entry s → (c e : ℕ) → InFilm w c → NearestTo w c e → All (Outside c) es → c / 4 ^ s.square.level ≡ s.square.number → Settled g (dist w c e) c
+    pub covers : {es : List Suspect} {g : Figures} → Handled w s free f es g → Entry s → (c e : ℕ) → InFilm w c → NearestTo w c e → AllByRecursion (Outside c) es → c / 4 ^ s.square.level ≡ s.square.number → Settled g (dist w c e) c
     covers (dropped n) en c e o near out q = entry_settles f s c e en (settled_from f s.key (first_code s.square) n) o q near
     covers (settled z i) en c e o near out q =
         let h = key_bounds w fs s.square.level s.square.number s.key s.partner c e (film_code w fs c o) en.0 q near in
@@ -200,13 +200,13 @@ module _ (w : World) (fs : Facts w) where
         picked_covers f l s.square.number (omega (arith, en.2)) c e o near p out ((c / 4 ^ l) % 4) (omega arith) (in_quarter c l s.square.number i)
     covers (sunk {g = g} z i room t) en c e o near out q = tried_settles In f g t c e q o near
 
-    pub entries : {es : List Suspect} {g : Figures} → Handled w s free f es g → Entry s → All Entry es
+    pub entries : {es : List Suspect} {g : Figures} → Handled w s free f es g → Entry s → AllByRecursion Entry es
     entries (dropped n) en = tt
     entries (settled z i) en = tt
     entries (opened l z i room p) en = picked_entries f l s.square.number (omega (arith, en.2)) p
     entries (sunk z i room t) en = tt
 
-    pub keys : {es : List Suspect} {g : Figures} → Handled w s free f es g → Entry s → All (λ e. e.key ≤ s.key) es
+    pub keys : {es : List Suspect} {g : Figures} → Handled w s free f es g → Entry s → AllByRecursion (λ e. e.key ≤ s.key) es
     keys (dropped n) en = tt
     keys (settled z i) en = tt
     keys (opened l z i room p) en =

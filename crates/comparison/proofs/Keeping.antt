@@ -1,6 +1,6 @@
 -- What each call keeps, and the law.
 use Rattle.std.proofs.Common.{◌≡◌, ℕ, zero, suc, ◌+◌, ◌-◌, ◌*◌, ◌/◌, ◌%◌, ◌^◌, ◌<◌, ◌≤◌, min, max, Bool, true, false, ◌⊎◌, List, [], ◌∷◌, ◌++◌, length, sum_by, sym, refl, ap, ◌∙◌, subst, inl, inr, le_trans, arith, length-append}
-use Rattle.std.specs.List.{AllByRecursion as All}
+use Rattle.std.specs.List.{AllByRecursion}
 use Rattle.std.proofs.lemmas.Bool.{cases_lt, cases_eq, both_ways}
 use Rattle.std.proofs.lemmas.List.Sums.{sum_by-cons, sum_by-append}
 use Rattle.std.proofs.lemmas.List.Sorted.{IsPermutation-sym, length_permutation, sum_by-IsPermutation}
@@ -27,24 +27,24 @@ use Rattle.comparison.proofs.Existing.{strays_exists, strays_from}
 use Rattle.comparison.proofs.Handling.{Settled, Outside, settled_from, Entry, Shown, entry_settles, size, size_pos, size_most, better, covers, entries, keys, smaller, in_room, shown, low_rises, low_bound, tried_better, tried_shown, tried_low, tried_bound}
 
 -- all of two lists, apart
-pub all_left : {X : Type 0} (P : X → Type 0) (xs ys : List X) → All P (xs ++ ys) → All P xs
+pub all_left : {X : Type 0} (P : X → Type 0) (xs ys : List X) → AllByRecursion P (xs ++ ys) → AllByRecursion P xs
 all_left P [] ys h = tt
 all_left P (x ∷ xs) ys h = (h.0, all_left P xs ys h.1)
 
-pub all_right : {X : Type 0} (P : X → Type 0) (xs ys : List X) → All P (xs ++ ys) → All P ys
+pub all_right : {X : Type 0} (P : X → Type 0) (xs ys : List X) → AllByRecursion P (xs ++ ys) → AllByRecursion P ys
 all_right P [] ys h = h
 all_right P (x ∷ xs) ys h = all_right P xs ys h.1
 
-pub all_both : {X : Type 0} (P Q : X → Type 0) (xs : List X) → All P xs → All Q xs → All (λ x. P x × Q x) xs
+pub all_both : {X : Type 0} (P Q : X → Type 0) (xs : List X) → AllByRecursion P xs → AllByRecursion Q xs → AllByRecursion (λ x. P x × Q x) xs
 all_both P Q [] p q = tt
 all_both P Q (x ∷ xs) p q = ((p.0, q.0), all_both P Q xs p.1 q.1)
 
 -- the greatest key bounds each key, and is bounded by what bounds each
-pub keys_below : (ss : List Suspect) (m : ℕ) → greatest_key ss ≤ m → All (λ s. s.key ≤ m) ss
+pub keys_below : (ss : List Suspect) (m : ℕ) → greatest_key ss ≤ m → AllByRecursion (λ s. s.key ≤ m) ss
 keys_below [] m h = tt
 keys_below (s ∷ ss) m h = (omega arith, keys_below ss m (omega arith))
 
-pub greatest-below : (ss : List Suspect) (m : ℕ) → All (λ s. s.key ≤ m) ss → greatest_key ss ≤ m
+pub greatest-below : (ss : List Suspect) (m : ℕ) → AllByRecursion (λ s. s.key ≤ m) ss → greatest_key ss ≤ m
 greatest-below [] m h = omega arith
 greatest-below (s ∷ ss) m h = let q = greatest-below ss m h.1 in omega (arith, h.0)
 
@@ -56,7 +56,7 @@ module _ (w : World) where
 
 module _ (w : World) (fs : Facts w) where
   -- as many squares as entries, at least
-  sizes_pos : (ss : List Suspect) → All (Entry w fs) ss → length ss ≤ sum_by (size w) ss
+  sizes_pos : (ss : List Suspect) → AllByRecursion (Entry w fs) ss → length ss ≤ sum_by (size w) ss
   sizes_pos [] h = omega arith
   sizes_pos (s ∷ ss) h =
       let a = sizes_pos ss h.1 in
@@ -67,8 +67,8 @@ module _ (w : World) (fs : Facts w) where
   pub record Kept (st : State) : Type 0 where
     pub shows : Shown w fs st.figures
     -- no cell outside of the waiting squares improves the figures
-    pub cover : (c e : ℕ) → InFilm w c → NearestTo w c e → All (Outside c) st.waiting → Settled st.figures (dist w c e) c
-    pub right : All (Entry w fs) st.waiting
+    pub cover : (c e : ℕ) → InFilm w c → NearestTo w c e → AllByRecursion (Outside c) st.waiting → Settled st.figures (dist w c e) c
+    pub right : AllByRecursion (Entry w fs) st.waiting
     pub balanced : st.queued ≡ st.taken + length st.waiting
     -- what was taken, and all that can still be queued, fits
     pub fits : st.taken + sum_by (size w) st.waiting ≤ squares_in w 16 0
@@ -93,7 +93,7 @@ module _ (w : World) (fs : Facts w) where
   pub finished : (st : State) → Kept st → st.waiting ≡ [] → Strayed w st.figures.low st.figures.film st.figures.drawing
   finished st k e =
       strays_from w fs st.figures.film st.figures.drawing k.shows.0 k.shows.1
-      (λ c x o near. let s = k.cover c x o near (subst (All (Outside c)) (sym e) tt) in let d = k.shows.2 in (omega (arith, s.0), λ i. s.1 (i ∙ sym d)))
+      (λ c x o near. let s = k.cover c x o near (subst (AllByRecursion (Outside c)) (sym e) tt) in let d = k.shows.2 in (omega (arith, s.0), λ i. s.1 (i ∙ sym d)))
       st.figures.low k.shows.2
 
   refuses : (st : State) (o : Said) (st' : State) → st.begun ≡ true → Results w st o st' → 0 < length st.waiting → o ≡ refused 17 (length st.waiting)
@@ -135,22 +135,22 @@ module _ (w : World) (fs : Facts w) where
       record {
         shows = (b.first.held, k.0, k.1);
         cover = λ c e o near out.
-            let h : All (Outside c) (b.board ∷ []) = subst (All (Outside c)) b.waiting out in
+            let h : AllByRecursion (Outside c) (b.board ∷ []) = subst (AllByRecursion (Outside c)) b.waiting out in
             absurd (h.0 (subst (λ s. c / 4 ^ s.level ≡ s.number) (sym b.whole) (on_board w fs c o)));
-        right = subst (All (Entry w fs)) (sym b.waiting) ((b.right, held, omega arith), tt);
+        right = subst (AllByRecursion (Entry w fs)) (sym b.waiting) ((b.right, held, omega arith), tt);
         balanced = omega (arith, b.queued, b.taken);
         fits = omega (arith, b.taken);
         waits = omega arith;
       }
 
   module _ (st st' : State) (k : Kept st) (p : Advanced w st st') where
-    both : All (Entry w fs) (p.taken_one ∷ p.rest)
+    both : AllByRecursion (Entry w fs) (p.taken_one ∷ p.rest)
     both = all_shuffled (Entry w fs) st.waiting (p.taken_one ∷ p.rest) p.split k.right
 
-    step_cover : (c e : ℕ) → InFilm w c → NearestTo w c e → All (Outside c) st'.waiting → Settled st'.figures (dist w c e) c
+    step_cover : (c e : ℕ) → InFilm w c → NearestTo w c e → AllByRecursion (Outside c) st'.waiting → Settled st'.figures (dist w c e) c
     step_cover c e o near out = go (cases_eq (c / 4 ^ p.taken_one.square.level) p.taken_one.square.number)
       where
-        now_out : All (Outside c) (p.queued_now ++ p.rest)
+        now_out : AllByRecursion (Outside c) (p.queued_now ++ p.rest)
         now_out = all_shuffled (Outside c) st'.waiting (p.queued_now ++ p.rest) p.waiting out
 
         go : (c / 4 ^ p.taken_one.square.level ≡ p.taken_one.square.number) ⊎ (c / 4 ^ p.taken_one.square.level ≡ p.taken_one.square.number → ⊥) → Settled st'.figures (dist w c e) c
@@ -162,7 +162,7 @@ module _ (w : World) (fs : Facts w) where
             (n, all_right (Outside c) p.queued_now p.rest now_out)))
 
     -- all of what waits after the step, from all of what it queued and all of the rest
-    after : (P : Suspect → Type 0) → All P p.queued_now → All P p.rest → All P st'.waiting
+    after : (P : Suspect → Type 0) → AllByRecursion P p.queued_now → AllByRecursion P p.rest → AllByRecursion P st'.waiting
     after P a b =
         all_shuffled P (p.queued_now ++ p.rest) st'.waiting (IsPermutation-sym st'.waiting (p.queued_now ++ p.rest) p.waiting)
         (All-append P p.queued_now p.rest a b)
@@ -277,7 +277,7 @@ module _ (w : World) (fs : Facts w) where
   run_keeps stop k t = k t
   run_keeps (next d r) k t = run_keeps r (effect _ _ _ _ d k).keeps t
 
-  pub run_says : {st st' : State} {cs : List Call} {os : List Said} → Run w st cs os st' → (st.begun ≡ true → Kept st) → All (TrueOf w) os
+  pub run_says : {st st' : State} {cs : List Call} {os : List Said} → Run w st cs os st' → (st.begun ≡ true → Kept st) → AllByRecursion (TrueOf w) os
   run_says stop k = tt
   run_says (next d r) k = ((effect _ _ _ _ d k).says, run_says r (effect _ _ _ _ d k).keeps)
 

@@ -1,6 +1,6 @@
 -- A comparison as the world that it is made over and the state that it has come to, and what a call of it does.
 use Rattle.std.specs.Prelude.{◌≡◌, ℕ, false, List, [], map, replicate, Ok, Err, sum_by, Result}
-use Rattle.std.specs.List.{AllByRecursion as All}
+use Rattle.std.specs.List.{AllByRecursion}
 use Rattle.board.specs.Squares.{OnBoard}
 use Rattle.search.specs.Offers.{weight}
 use Rattle.search.specs.WaitingLists.{waiting, room, Ready}
@@ -42,7 +42,7 @@ module _ {A B M : Type 0} where
   -- what `new` gives and every call keeps: the suspects are squares of the board in heap order, and no neighbour waits
   pub record InOrder (c : Comparison A B M) : Type 0 where
     pub heap : Ready ordered c.suspects
-    pub board : All On (waiting c.suspects)
+    pub board : AllByRecursion On (waiting c.suspects)
     pub idle : waiting c.trial.neighbours ≡ []
 
   -- falls with every step

@@ -1,7 +1,7 @@
 -- What is true of every list of calls on a fresh comparison, of what the calls say, and of what they leave.
 use Rattle.std.specs.Prelude.{◌≡◌, ℕ, ◌+◌, ◌<◌, ◌≤◌, true, List, [], length, ◌≢◌}
 use Rattle.std.specs.List.Sorted.{IsPermutation}
-use Rattle.std.specs.List.{AllByRecursion as All}
+use Rattle.std.specs.List.{AllByRecursion}
 use Rattle.board.specs.Limits.{top}
 use Rattle.comparison.specs.declared.call.Call.{Call}
 use Rattle.comparison.specs.declared.call.Call.TheVariants.{Result}
@@ -11,7 +11,7 @@ use Rattle.comparison.specs.Calls.Said.{begun, stepped, probed, looked, answered
 
 -- no call of these began anew
 abbrev pub Goes_on : List Said → Type 0
-Goes_on os = All (λ o. o ≢ begun) os
+Goes_on os = AllByRecursion (λ o. o ≢ begun) os
 
 -- the figures of the second state are within those of the first
 abbrev pub Narrows : State → State → Type 0
@@ -67,7 +67,7 @@ module _ (w : World) where
 
   -- what every list of calls on a fresh comparison keeps: each call says what is so, and the state is lawful
   pub record Law (cs : List Call) (os : List Said) (st : State) : Type 0 where
-    pub says : All TrueOf os
+    pub says : AllByRecursion TrueOf os
     pub lawful : Lawful st
 
   -- what one more call keeps

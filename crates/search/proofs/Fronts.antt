@@ -1,7 +1,7 @@
 -- The stack of a walk, turn by turn.
 use Rattle.std.proofs.Common.{◌≡◌, ℕ, zero, suc, ◌+◌, ◌-◌, ◌*◌, ◌/◌, ◌%◌, ◌^◌, ◌<◌, ◌≤◌, ◌⊎◌, List, [], ◌∷◌, length, sum_by, sym, refl, ap, subst, inl, inr, le_trans, pow-suc, arith}
 use native.Mathlib.Nat.{pow-le-pow_right}
-use Rattle.std.specs.List.{AllByRecursion as All}
+use Rattle.std.specs.List.{AllByRecursion}
 use Rattle.std.proofs.ByRecursion.{All-weaker}
 use Rattle.std.proofs.lemmas.List.Sums.{sum_by-cons}
 use Rattle.std.proofs.lemmas.Bool.{cases_eq, cases_lt}
@@ -26,11 +26,11 @@ pub record Slot (e last h : ℕ) (s : Square) : Type 0 where
 -- the squares on the stack follow one another
 abbrev pub Stacked : ℕ → ℕ → List Square → Type 0
 Stacked e last [] = Unit {0}
-Stacked e last (s ∷ ss) = Slot e last (length ss) s × All (λ r. ends s ≤ starts r) ss × Stacked e last ss
+Stacked e last (s ∷ ss) = Slot e last (length ss) s × AllByRecursion (λ r. ends s ≤ starts r) ss × Stacked e last ss
 
 -- each square of the level e in P is done, or lies under one that waits
 abbrev pub Covers : {X : Type 0} → (X → Square) → ℕ → (ℕ → Type 0) → (ℕ → Type 0) → List X → Type 0
-Covers at e P D xs = (q : ℕ) → P q → All (λ x. Outside e q (at x)) xs → D q
+Covers at e P D xs = (q : ℕ) → P q → AllByRecursion (λ x. Outside e q (at x)) xs → D q
 
 -- what a walk over s has to cover: what lies in s, and what begins before s from `since` on
 abbrev pub Wanted : ℕ → ℕ → Square → ℕ → Type 0
@@ -38,8 +38,8 @@ Wanted e since s q = Under e s.level s.number q ⊎ ((since ≤ q) × Before e q
 
 -- what becomes of the front when t is taken: what lay under t is done, or lies under what came in its place
 pub covers_next : {X : Type 0} (at : X → Square) (e : ℕ) (P D D' : ℕ → Type 0) (t : X) (xs ys : List X)
-    → ((q : ℕ) → D q → D' q) → ((q : ℕ) → All (λ x. Outside e q (at x)) ys → All (λ x. Outside e q (at x)) xs)
-    → ((q : ℕ) → P q → Under e (at t).level (at t).number q → All (λ x. Outside e q (at x)) ys → D' q)
+    → ((q : ℕ) → D q → D' q) → ((q : ℕ) → AllByRecursion (λ x. Outside e q (at x)) ys → AllByRecursion (λ x. Outside e q (at x)) xs)
+    → ((q : ℕ) → P q → Under e (at t).level (at t).number q → AllByRecursion (λ x. Outside e q (at x)) ys → D' q)
     → Covers at e P D (t ∷ xs) → Covers at e P D' ys
 covers_next at e P D D' t xs ys keep less here h q p out = go (cases_eq (q / parts ^ ((at t).level - e)) (at t).number)
   where
@@ -51,7 +51,7 @@ abbrev pub quarters : Square → List Square → List Square
 quarters t ss = piled (from_last t) parts ss
 
 -- nothing lies under a square and outside its quarters
-no_gap : (e q : ℕ) (t : Square) (ss : List Square) → e < t.level → Under e t.level t.number q → All (Outside e q) (quarters t ss) → ⊥
+no_gap : (e q : ℕ) (t : Square) (ss : List Square) → e < t.level → Under e t.level t.number q → AllByRecursion (Outside e q) (quarters t ss) → ⊥
 no_gap e q t ss h u out =
     let k = (q / parts ^ (t.level - 1 - e)) % parts in
     let j : parts - 1 - (parts - 1 - k) ≡ k = omega arith in
@@ -81,10 +81,10 @@ pub stacked_one : (e : ℕ) (s : Square) → e ≤ s.level → OnBoard s.level s
 stacked_one e s h b = (record { above = h; board = b; room = omega (arith, b.0); limit = omega arith }, tt, tt)
 
 -- what begins before t lies in no square on the stack
-before-all : (e last q : ℕ) (t : Square) (ss : List Square) → Stacked e last (t ∷ ss) → Before e q t → All (Outside e q) (t ∷ ss)
+before-all : (e last q : ℕ) (t : Square) (ss : List Square) → Stacked e last (t ∷ ss) → Before e q t → AllByRecursion (Outside e q) (t ∷ ss)
 before-all e last q t ss s b = (λ u. omega (arith, under_starts e t.level t.number q s.0.above u), each ss s.1 s.2)
   where
-    each : (rs : List Square) → All (λ r. ends t ≤ starts r) rs → Stacked e last rs → All (Outside e q) rs
+    each : (rs : List Square) → AllByRecursion (λ r. ends t ≤ starts r) rs → Stacked e last rs → AllByRecursion (Outside e q) rs
     each [] h k = tt
     each (r ∷ rs) h k = (λ u. omega (arith, h.0, starts_before_ends t, under_starts e r.level r.number q k.0.above u), each rs h.1 k.2)
 

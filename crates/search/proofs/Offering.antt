@@ -1,6 +1,6 @@
 -- What waits after an offer.
 use Rattle.std.proofs.Common.{◌≡◌, ℕ, true, List, [], ◌∷◌, sum_by, sym, refl, ap, ◌∙◌, subst, arith}
-use Rattle.std.specs.List.{AllByRecursion as All}
+use Rattle.std.specs.List.{AllByRecursion}
 use Rattle.std.proofs.ByRecursion.{All-weaker, all_shuffled}
 use Rattle.std.proofs.lemmas.List.Sorted.{IsPermutation-sym, sum_by-IsPermutation}
 use Rattle.std.proofs.lemmas.List.Sums.{sum_by-cons}
@@ -19,8 +19,8 @@ module _ (l : ℕ) (near : ℕ → ℕ → ℕ) where
   offered_done D s v w r e h = record {
     space = r;
     ready = λ k o. subst (InHeap o) (sym e) (k o);
-    entries = subst (All (Entry l near)) (sym e);
-    covers = λ q out. (subst (All (λ x. Outside l q x.square)) e out, (h q, tt));
+    entries = subst (AllByRecursion (Entry l near)) (sym e);
+    covers = λ q out. (subst (AllByRecursion (λ x. Outside l q x.square)) e out, (h q, tt));
     lighter = omega (arith, ap (sum_by (λ x. weight x.square)) e);
   }
 

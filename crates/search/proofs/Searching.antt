@@ -1,6 +1,6 @@
 -- The list of neighbours, turn by turn.
 use Rattle.std.proofs.Common.{◌≡◌, ℕ, ◌+◌, ◌-◌, ◌/◌, ◌%◌, ◌^◌, ◌<◌, ◌≤◌, false, ◌⊎◌, List, [], ◌∷◌, Some, None, sum_by, Option, sym, refl, ap, subst, inl, inr, ⊎_elim, arith}
-use Rattle.std.specs.List.{AllByRecursion as All}
+use Rattle.std.specs.List.{AllByRecursion}
 use Rattle.std.specs.Ordering.{is_lt}
 use Rattle.std.proofs.lemmas.Bool.{cases_lt, cases_eq, both_ways}
 use Rattle.std.proofs.lemmas.List.Sorted.{IsPermutation-sym, sum_by-IsPermutation}
@@ -33,7 +33,7 @@ use Rattle.search.specs.NeighbourFacts.{neighbours_are_ordered}
 -- what waits: in order, with the right amounts, and nothing on the board is left out
 pub record Waits (l : ℕ) (near : ℕ → ℕ → ℕ) (D : ℕ → Type 0) (v : WaitingList Neighbour) : Type 0 where
   pub ready : Ready ordered v
-  pub entries : All (Entry l near) (waiting v)
+  pub entries : AllByRecursion (Entry l near) (waiting v)
   pub covers : Covers (λ x. x.square) l (Under l top 0) D (waiting v)
 
 -- what is in order behind x is no nearer
@@ -45,7 +45,7 @@ no_nearer x y h = go (cases_lt y.amount x.amount)
     go (inr le) = le
 
 -- what lies in none of the squares is done, and what lies in one is too
-all_done : {X : Type 0} (at : X → Square) (l q : ℕ) (D : Type 0) (xs : List X) → All (λ x. Under l (at x).level (at x).number q → D) xs → (All (λ x. Outside l q (at x)) xs → D) → D
+all_done : {X : Type 0} (at : X → Square) (l q : ℕ) (D : Type 0) (xs : List X) → AllByRecursion (λ x. Under l (at x).level (at x).number q → D) xs → (AllByRecursion (λ x. Outside l q (at x)) xs → D) → D
 all_done at l q D [] h k = k tt
 all_done at l q D (x ∷ xs) h k = ⊎_elim h.0 (λ n. all_done at l q D xs h.1 (λ o. k (n, o))) (cases_eq (q / parts ^ ((at x).level - l)) (at x).number)
 
@@ -53,7 +53,7 @@ module _ (l : ℕ) (near : ℕ → ℕ → ℕ) where
   pub waits_begins : (D : ℕ → Type 0) (v w : WaitingList Neighbour) (s : Square) → s.level ≡ top → s.number ≡ 0 → waiting v ≡ [] → Ready ordered v → Offered l near D (s ∷ []) v w → Waits l near D w
   waits_begins D v w s i j e r o = record {
     ready = o.ready r;
-    entries = o.entries (subst (All (Entry l near)) (sym e) tt);
+    entries = o.entries (subst (AllByRecursion (Entry l near)) (sym e) tt);
     covers = λ q u out. (o.covers q out).1.0 (subst (λ m. Under l m s.number q) (sym i) (subst (λ n. Under l top n q) (sym j) u));
   }
 
@@ -95,11 +95,11 @@ module _ (f : ℕ → ℕ → ℕ) (b : Bounds f) (l r : ℕ) (t : ℕ → Answe
       let first : FirstIn neighbours x (waiting v) = (k.1 neighbours (h.ready neighbours)).1 in
       record {
         ready = ready';
-        entries = subst (All (Entry l (near f l r))) (sym e) tt;
+        entries = subst (AllByRecursion (Entry l (near f l r))) (sym e) tt;
         covers = λ q p out. all_done (λ y. y.square) l q (Done t (far f l r l) best q) (waiting v) (each q (waiting v) h.entries first) (h.covers q p);
       }
     where
-      each : (q : ℕ) (ys : List Neighbour) → All (Entry l (near f l r)) ys → All (λ y. is_lt (before y x) ≡ false) ys → All (λ y. Under l y.square.level y.square.number q → Done t (far f l r l) best q) ys
+      each : (q : ℕ) (ys : List Neighbour) → AllByRecursion (Entry l (near f l r)) ys → AllByRecursion (λ y. is_lt (before y x) ≡ false) ys → AllByRecursion (λ y. Under l y.square.level y.square.number q → Done t (far f l r l) best q) ys
       each q [] es fs = tt
       each q (y ∷ ys) es fs = (
         λ u o. beyond_under f b l r best y.square.level y.square.number q (omega (arith, es.0.above)) (subst (Beyond best) es.0.amount (beyond_more best x.amount y.amount (no_nearer x y fs.0) z)) u,
@@ -127,5 +127,5 @@ pub finished : {B M : Type 0} (answers : B → ℕ → ℕ → Answer) (amount :
 finished answers amount a u v i j facts w e h q o =
     let l = a.of.level in
     let c : Covers (λ x. x.square) l (Under l top 0) (done answers amount v) (waiting w) = subst (λ x. Covers (λ y. y.square) x.of.level (Under x.of.level top 0) (done answers amount v) (waiting w)) i h.covers in
-    let d : Done (table answers amount v.aim) (far_from answers amount v.aim) v.best q = c q (counted_under (answers a.store.now) facts l q o) (subst (All (λ x. Outside l q x.square)) (sym e) tt) in
+    let d : Done (table answers amount v.aim) (far_from answers amount v.aim) v.best q = c q (counted_under (answers a.store.now) facts l q o) (subst (AllByRecursion (λ x. Outside l q x.square)) (sym e) tt) in
     subst (λ x. Done (table answers amount x) (far_from answers amount x) v.best q) j d o

@@ -1,6 +1,6 @@
 -- What an offer of squares does to the list of neighbours.
 use Rattle.std.specs.Prelude.{◌≡◌, ℕ, ◌+◌, ◌^◌, ◌<◌, ◌≤◌, List, sum_by}
-use Rattle.std.specs.List.{AllByRecursion as All}
+use Rattle.std.specs.List.{AllByRecursion}
 use Rattle.board.specs.Limits.{parts}
 use Rattle.board.specs.Squares.{OnBoard}
 use Rattle.board.specs.declared.square.Square.{Square}
@@ -24,6 +24,6 @@ pub record Entry (l : ℕ) (near : ℕ → ℕ → ℕ) (x : Neighbour) : Type 0
 pub record Offered (l : ℕ) (near : ℕ → ℕ → ℕ) (done : ℕ → Type 0) (ss : List Square) (v w : WaitingList Neighbour) : Type 0 where
   pub space : room w ≡ room v
   pub ready : Ready ordered v → Ready ordered w
-  pub entries : All (Entry l near) (waiting v) → All (Entry l near) (waiting w)
-  pub covers : (q : ℕ) → All (λ x. Outside l q x.square) (waiting w) → All (λ x. Outside l q x.square) (waiting v) × All (λ s. Under l s.level s.number q → done q) ss
+  pub entries : AllByRecursion (Entry l near) (waiting v) → AllByRecursion (Entry l near) (waiting w)
+  pub covers : (q : ℕ) → AllByRecursion (λ x. Outside l q x.square) (waiting w) → AllByRecursion (λ x. Outside l q x.square) (waiting v) × AllByRecursion (λ s. Under l s.level s.number q → done q) ss
   pub lighter : sum_by (λ x. weight x.square) (waiting w) ≤ sum_by (λ x. weight x.square) (waiting v) + sum_by weight ss

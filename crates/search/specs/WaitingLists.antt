@@ -5,7 +5,7 @@ use Rattle.std.specs.BinaryHeap.{IsHeap}
 use Rattle.std.specs.Cmp.{IsTotalOrder}
 use Rattle.std.specs.Ordering.{is_lt}
 use Rattle.std.specs.List.Sorted.{IsPermutation}
-use Rattle.std.specs.List.{ContainsAt as Has, AllByRecursion as All}
+use Rattle.std.specs.List.{ContainsAt as Has, AllByRecursion}
 use Rattle.search.specs.Orders.{back}
 use Rattle.search.specs.declared.waiting.WaitingList.{WaitingList}
 
@@ -24,7 +24,7 @@ module _ {X : Type 0} where
 
   -- no entry of xs comes before x
   abbrev pub FirstIn : {R : X → X → Ordering} → IsTotalOrder R → X → List X → Type 0
-  FirstIn {R} o x xs = All (λ y. is_lt (R y x) ≡ false) xs
+  FirstIn {R} o x xs = AllByRecursion (λ y. is_lt (R y x) ≡ false) xs
 
 module _ {X : Type 0} (R : X → X → Ordering) where
   -- the list is a heap: what `new` and `clear` give, and `add` and `take` keep

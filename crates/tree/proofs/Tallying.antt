@@ -1,7 +1,7 @@
 -- Counting the cells of a square by its quarters.
 use Rattle.std.proofs.Common.{◌≡◌, ℕ, zero, suc, ◌+◌, ◌-◌, ◌*◌, ◌/◌, ◌%◌, ◌^◌, ◌<◌, ◌≤◌, Bool, true, false, cond, ◌&&◌, ◌||◌, eqb, ◌⊎◌, List, [], ◌∷◌, sym, refl, ap, ◌∙◌, ap₂, inl, inr, mul-le-mul_right, add-mul, pow-suc, div-one, arith}
 use native.Mathlib.Nat.{pow-le-pow_right}
-use Rattle.std.specs.List.{AllByRecursion as All}
+use Rattle.std.specs.List.{AllByRecursion}
 use Rattle.std.proofs.ByRecursion.{All-weaker}
 use Rattle.std.proofs.lemmas.Bool.{and_parts, cases_eq, cond-true, eq-eqb, false≢true, ne_eqb}
 use Rattle.board.specs.Squares.{OnBoard}
@@ -68,7 +68,7 @@ count_none (c ∷ cs) l n e = go (eqb (c / 4 ^ l) n) (count_none cs l n) e
     go true f z = absurd (false≢true (sym z))
     go false f z = let r = f z in omega arith
 
-none_above : (cs : List ℕ) (n : ℕ) → All (λ c. n < c) cs → count_in cs 0 n ≡ 0
+none_above : (cs : List ℕ) (n : ℕ) → AllByRecursion (λ c. n < c) cs → count_in cs 0 n ≡ 0
 unfolding count_in
 none_above [] n a = refl
 none_above (c ∷ cs) n a =
