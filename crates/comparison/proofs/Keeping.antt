@@ -21,7 +21,7 @@ use Rattle.comparison.specs.Calls.Probes.{probes, not_held, probe_early}
 use Rattle.comparison.specs.Calls.Looks.{looks, look_early}
 use Rattle.comparison.specs.Calls.Results.{results, result_early, result_waits}
 use Rattle.comparison.specs.Calls.Run.{stop, next}
-use Rattle.comparison.specs.Law.{Goes_on, Sound, TrueOf, Narrows, Lawful, Law, KeptBy, Reached, RunsKeepTheLaw}
+use Rattle.comparison.specs.Law.{GoesOn, Sound, TrueOf, Narrows, Lawful, Law, KeptBy, Reached, RunsKeepTheLaw}
 use Rattle.comparison.proofs.Keying.{key_bounds, cell_key, not_empty, on_board, film_code}
 use Rattle.comparison.proofs.Existing.{strays_exists, strays_from}
 use Rattle.comparison.proofs.Handling.{Settled, Outside, settled_from, Entry, Shown, entry_settles, size, size_pos, size_most, better, covers, entries, keys, smaller, in_room, shown, low_rises, low_bound, tried_better, tried_shown, tried_low, tried_bound}
@@ -281,7 +281,7 @@ module _ (w : World) (fs : Facts w) where
   run_says stop k = tt
   run_says (next d r) k = ((effect _ _ _ _ d k).says, run_says r (effect _ _ _ _ d k).keeps)
 
-  pub run_narrows : {st st' : State} {cs : List Call} {os : List Said} → Run w st cs os st' → Goes_on os → st.begun ≡ true → Kept st → Narrows st st'
+  pub run_narrows : {st st' : State} {cs : List Call} {os : List Said} → Run w st cs os st' → GoesOn os → st.begun ≡ true → Kept st → Narrows st st'
   run_narrows stop n b k = (omega arith, omega arith)
   run_narrows (next d r) n b k =
       let e = effect _ _ _ _ d (λ x. k) in

@@ -10,8 +10,8 @@ use Rattle.comparison.specs.Calls.{State, Said, Does, Run, fresh, high}
 use Rattle.comparison.specs.Calls.Said.{begun, stepped, probed, looked, answered, refused}
 
 -- no call of these began anew
-abbrev pub Goes_on : List Said → Type 0
-Goes_on os = AllByRecursion (λ o. o ≢ begun) os
+abbrev pub GoesOn : List Said → Type 0
+GoesOn os = AllByRecursion (λ o. o ≢ begun) os
 
 -- the figures of the second state are within those of the first
 abbrev pub Narrows : State → State → Type 0
@@ -63,7 +63,7 @@ module _ (w : World) where
   pub record Lawful (st : State) : Type 0 where
     pub sound : st.begun ≡ true → Sound st
     -- until a call begins anew, low does not fall and high does not rise
-    pub narrows : st.begun ≡ true → (cs : List Call) (os : List Said) (st' : State) → Run w st cs os st' → Goes_on os → Narrows st st'
+    pub narrows : st.begun ≡ true → (cs : List Call) (os : List Said) (st' : State) → Run w st cs os st' → GoesOn os → Narrows st st'
 
   -- what every list of calls on a fresh comparison keeps: each call says what is so, and the state is lawful
   pub record Law (cs : List Call) (os : List Said) (st : State) : Type 0 where

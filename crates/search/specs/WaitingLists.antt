@@ -10,7 +10,7 @@ use Rattle.search.specs.Orders.{back}
 use Rattle.search.specs.declared.waiting.WaitingList.{WaitingList}
 
 module _ {X : Type 0} where
-  -- the entries that wait: a bag, since contracts compare it by Shuffled
+  -- the entries that wait: a bag, since contracts compare it by IsPermutation
   abbrev pub waiting : WaitingList X → List X
   waiting w = take w.count w.places.now
 
