@@ -40,7 +40,7 @@ fn block(heap: Global, x: u16, y: u16, side: u16) -> Result<Vec<u32>, AllocError
             codes.push(cell.code())?;
         }
     }
-    codes.sort();
+    codes.sort()?;
     Ok(codes)
 }
 
@@ -54,7 +54,7 @@ fn row(heap: Global, x: u16, y: u16, count: u16) -> Result<Vec<u32>, AllocError>
         };
         codes.push(cell.code())?;
     }
-    codes.sort();
+    codes.sort()?;
     Ok(codes)
 }
 
@@ -68,7 +68,7 @@ fn scattered(heap: Global, seed: u64, count: u16) -> Result<Vec<u32>, AllocError
             .wrapping_add(1442695040888963407);
         codes.push((state >> 32) as u32)?;
     }
-    codes.sort();
+    codes.sort()?;
     codes.dedup();
     Ok(codes)
 }

@@ -105,7 +105,7 @@ fn codes_of(heap: Global, film: Film, count: u32) -> Result<Vec<u32>, AllocError
         };
         codes.push(code)?;
     }
-    codes.sort();
+    codes.sort()?;
     codes.dedup();
     Ok(codes)
 }

@@ -19,7 +19,7 @@ fn random_codes(
     for _ in 0..count {
         codes.push(random.code(height))?;
     }
-    codes.sort();
+    codes.sort()?;
     codes.dedup();
     Ok(codes)
 }
