@@ -13,7 +13,7 @@ SCRIPT ?= examples/guide.script
 
 run:
 	@echo "make run: proving and building filmdist; a minute or two the first time, seconds after that" >&2
-	@rt run filmdist </dev/null >/dev/null 2>&1 || { echo "not built: 'rt check filmdist' says why" >&2; exit 1; }
+	@(cd crates/filmdist && rt run </dev/null >/dev/null 2>&1) || { echo "not built: 'rt check' in crates/filmdist says why" >&2; exit 1; }
 	@if [ -n "$(A)$(B)" ]; then \
 		sh examples/run.sh "$(A)" "$(B)"; \
 	else \
@@ -25,7 +25,7 @@ run:
 
 guide:
 	@echo "make guide: proving and building filmguide; some minutes the first time, seconds after that" >&2
-	@rt run filmguide </dev/null >/dev/null 2>&1 || { echo "not built: 'rt check filmguide' says why" >&2; exit 1; }
+	@(cd crates/filmguide && rt run </dev/null >/dev/null 2>&1) || { echo "not built: 'rt check' in crates/filmguide says why" >&2; exit 1; }
 	@sh examples/run.sh "$(or $(A),examples/scratched.cells)" "$(or $(B),examples/drawing.cells)" filmguide < "$(SCRIPT)"
 
 test:

@@ -1,5 +1,5 @@
 // Cells, and their codes: the bits of x and of y by turns.
-ghost use Rattle.std.specs.Prelude.{◌≡◌, IsSomeAnd, Some, refl};
+ghost use Rattle.std.specs.Prelude.{◌≡◌, Some, refl};
 ghost use Rattle.board.specs.CellOrder.{by_code, CellOrderIsCodeOrder};
 ghost use Rattle.board.specs.Morton.{evens, spaced, x_of, y_of, code as coded, Interleaved, CodesAreExact};
 ghost use Rattle.board.specs.CodeFacts.Ordered.{total as cells_total, ties as cells_tie};

@@ -1,5 +1,5 @@
 // Lists of codes: strictly rising, and not too long.
-ghost use Rattle.std.specs.Prelude.{◌≡◌, MatchResult};
+ghost use Rattle.std.specs.Prelude.{MatchResult};
 ghost use Rattle.board.specs.Lists.{Rises, ListRefused, list_numbered};
 
 use crate::refusal::Refusal;

@@ -1,5 +1,5 @@
 // Squares of cells, and their quarters.
-ghost use Rattle.std.specs.Prelude.{◌≡◌, ℕ, ◌+◌, ◌*◌, ◌^◌, ◌<◌, ◌≤◌, IfSome, Decides, MatchOption};
+ghost use Rattle.std.specs.Prelude.{◌≡◌, ℕ, ◌+◌, ◌*◌, ◌^◌, ◌≤◌, IfSome, Decides, MatchOption};
 ghost use Rattle.board.specs.Limits.{parts};
 ghost use Rattle.board.specs.Morton.{x_of, y_of, code as coded};
 ghost use Rattle.board.specs.Spans.{first as first_of, last as last_of, Lies, SquaresAreBlocks};

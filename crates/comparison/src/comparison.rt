@@ -1,5 +1,5 @@
 // The comparison: begin, step, probe, look and result.
-ghost use Rattle.std.specs.Prelude.{◌≡◌, ℕ, ◌+◌, ◌-◌, ◌*◌, ◌^◌, ◌<◌, ◌≤◌, ◌⊎◌, length};
+ghost use Rattle.std.specs.Prelude.{◌≡◌, ◌+◌, ◌-◌, ◌*◌, ◌^◌, ◌<◌, ◌≤◌, length};
 ghost use Rattle.board.specs.Limits.{parts};
 ghost use Rattle.board.specs.Squares.{OnBoard};
 ghost use Rattle.search.specs.Offers.{weight};

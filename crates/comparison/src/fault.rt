@@ -1,5 +1,4 @@
 // Why a call of a comparison is refused.
-ghost use Rattle.std.specs.Prelude.{◌≡◌};
 ghost use Rattle.comparison.specs.Faults.{fault_numbered};
 
 use board::refusal::Refusal;

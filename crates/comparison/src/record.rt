@@ -1,5 +1,5 @@
 // What a comparison keeps of its search.
-ghost use Rattle.std.specs.Prelude.{◌≡◌, ◌<◌, ◌≤◌, ◌⊎◌, Decides};
+ghost use Rattle.std.specs.Prelude.{◌≡◌, ◌≤◌, Decides};
 ghost use Rattle.comparison.specs.Calls.{Improves, counted};
 
 use board::measure::Amount;

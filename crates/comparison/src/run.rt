@@ -1,5 +1,5 @@
 // Lists of calls: any of them in order, and steps to the end.
-ghost use Rattle.std.specs.Prelude.{◌≡◌, map, length, IfOk};
+ghost use Rattle.std.specs.Prelude.{◌≡◌, IfOk};
 ghost use Rattle.comparison.specs.Comparisons.{InOrder, Did, Ran, told};
 ghost use Rattle.comparison.specs.Examples.{RunsExist};
 ghost use Rattle.comparison.specs.Law.{RunsKeepTheLaw, RunsAreOne};

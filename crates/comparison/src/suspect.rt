@@ -1,5 +1,5 @@
 // Squares of A that wait to be looked into, and their order.
-ghost use Rattle.std.specs.Prelude.{◌≡◌, IsSomeAnd, Some, refl};
+ghost use Rattle.std.specs.Prelude.{◌≡◌, Some, refl};
 ghost use Rattle.comparison.specs.Suspects.{before, first_code, suspects, SuspectsAreOrdered};
 ghost use Rattle.comparison.specs.SuspectFacts.{ties};
 ghost use Rattle.std.specs.Cmp.{partial_order_from_agreeing_total};

@@ -1,7 +1,7 @@
 // Runs cases from outside: each line of the input has two films in hexadecimal, and the line that filmdist prints for them is written.
 #![tactic(auto)]
 
-ghost use Rattle.std.specs.Prelude.{◌≡◌, ◌<◌, IfSome};
+ghost use Rattle.std.specs.Prelude.{◌<◌, IfSome};
 
 use anyhow::anyhow;
 use board::measure::Squared;

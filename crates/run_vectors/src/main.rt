@@ -1,7 +1,7 @@
 // Replays cases from outside: each has a measure, the places of both lists, two films in hexadecimal, and calls; the answer to each call is written.
 #![tactic(auto)]
 
-ghost use Rattle.std.specs.Prelude.{◌≡◌, ◌<◌, IfSome};
+ghost use Rattle.std.specs.Prelude.{◌<◌, IfSome};
 
 use anyhow::anyhow;
 use guide::films::{Kind, Setting, guide, kind_named};

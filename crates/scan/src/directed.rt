@@ -1,5 +1,5 @@
 // The directed distance of two lists of codes.
-ghost use Rattle.std.specs.Prelude.{◌≡◌, ◌≤◌, MatchResult};
+ghost use Rattle.std.specs.Prelude.{◌≤◌, MatchResult};
 ghost use Rattle.board.specs.Distances.{distance as distance_of};
 ghost use Rattle.board.specs.Findings.{Finds};
 ghost use Rattle.board.specs.Limits.{most};

@@ -1,8 +1,6 @@
 // The two-way figure of two lists of codes.
-ghost use Rattle.std.specs.Prelude.{◌≡◌, ◌+◌, MatchResult};
+ghost use Rattle.std.specs.Prelude.{MatchResult};
 ghost use Rattle.board.specs.Distances.{distance as distance_of};
-ghost use Rattle.board.specs.Findings.{Finds};
-ghost use Rattle.board.specs.Lists.{Has};
 ghost use Rattle.scan.specs.Faults.{ScanRefused, Scanned, scan_numbered, scan_side};
 ghost use Rattle.scan.specs.TwoWays.{FindsBoth};
 

@@ -1,5 +1,5 @@
 // The hunt for a partner: what was found so far, and what a square does to it.
-ghost use Rattle.std.specs.Prelude.{◌≡◌, ℕ, ◌<◌, ◌≤◌, true, Some, Decides, MatchBool};
+ghost use Rattle.std.specs.Prelude.{◌≡◌, ℕ, ◌<◌, ◌≤◌, true, Some, MatchBool};
 ghost use Rattle.board.specs.Squares.{OnBoard};
 ghost use Rattle.search.specs.Hunts.{Settled, Beyond, floor, since, done, comes};
 ghost use Rattle.search.specs.Visits.{Met};

@@ -1,5 +1,5 @@
 // The search for the nearest square, the most promising square first.
-ghost use Rattle.std.specs.Prelude.{◌≡◌, ℕ, ◌<◌, ◌≤◌, [], ◌∷◌};
+ghost use Rattle.std.specs.Prelude.{◌≡◌, ◌<◌, ◌≤◌, [], ◌∷◌};
 ghost use Rattle.board.specs.Limits.{parts, edge, most};
 ghost use Rattle.board.specs.Squares.{OnBoard};
 ghost use Rattle.search.specs.Descents.{quarter};

@@ -1,5 +1,5 @@
 // Squares of B that wait to be looked into, and their order.
-ghost use Rattle.std.specs.Prelude.{◌≡◌, IsSomeAnd, Some, refl};
+ghost use Rattle.std.specs.Prelude.{◌≡◌, Some, refl};
 ghost use Rattle.search.specs.Neighbours.{before, first_code, neighbours, NeighboursAreOrdered};
 ghost use Rattle.search.specs.NeighbourFacts.{ties};
 ghost use Rattle.std.specs.Cmp.{partial_order_from_agreeing_total};

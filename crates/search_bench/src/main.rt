@@ -1,7 +1,6 @@
 // What a key costs: how many squares of B the search asks about, and how many it puts on its list, on films of three kinds and two sizes.
 #![tactic(auto)]
 
-ghost use Rattle.std.specs.Prelude.{◌≡◌};
 
 use anyhow::anyhow;
 use board::cell::Cell;

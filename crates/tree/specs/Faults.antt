@@ -1,5 +1,5 @@
 -- Which rule is broken first, and the number and the place of each fault.
-use Rattle.std.specs.Prelude.{◌≡◌, ℕ, ◌*◌, ◌/◌, ◌^◌, ◌<◌, ◌≤◌, ◌⊎◌, List, ◌++◌, length, ◌≢◌, slice_index}
+use Rattle.std.specs.Prelude.{◌≡◌, ℕ, ◌*◌, ◌/◌, ◌^◌, ◌<◌, ◌≤◌, ◌⊎◌, Bool, List, ◌++◌, length, ◌≢◌, slice_index}
 use Rattle.board.specs.Limits.{top, parts}
 use Rattle.board.specs.Lists.{ListRefused, list_numbered}
 use Rattle.tree.specs.declared.fault.Part.{Part}
@@ -41,7 +41,7 @@ abbrev pub High : ℕ → Type 0
 High height = (1 ≤ height) × (height ≤ top)
 
 -- a block below the first level begins at bit p, and has no 1
-pub record Hollow (bs : List mathlib.Core.Bool.Bool) (p : ℕ) : Type 0 where
+pub record Hollow (bs : List Bool) (p : ℕ) : Type 0 where
   pub block : ℕ
   pub begins : p ≡ parts * block
   pub below : 0 < block
@@ -49,30 +49,30 @@ pub record Hollow (bs : List mathlib.Core.Bool.Bool) (p : ℕ) : Type 0 where
   pub empty : Filled bs block → ⊥
 
 -- the rules for filling a directory: rule n is broken at place p
-pub data DirectoryBreaks (t : List ℕ) (bits-of-T : ℕ) (counts : List ℕ) (n p : ℕ) : Type 0 where
-  size : n ≡ 2 → p ≡ 0 → (Bitmap t bits-of-T → ⊥) → DirectoryBreaks t bits-of-T counts n p
-  short : n ≡ 6 → p ≡ length counts → length counts ≤ bits-of-T / spacing → DirectoryBreaks t bits-of-T counts n p
+pub data DirectoryBreaks (t : List ℕ) (bits_of_t : ℕ) (counts : List ℕ) (n p : ℕ) : Type 0 where
+  size : n ≡ 2 → p ≡ 0 → (Bitmap t bits_of_t → ⊥) → DirectoryBreaks t bits_of_t counts n p
+  short : n ≡ 6 → p ≡ length counts → length counts ≤ bits_of_t / spacing → DirectoryBreaks t bits_of_t counts n p
 
 -- the rules for opening a tree: rule n is broken at place p
-pub data TreeBreaks (height : ℕ) (t : List ℕ) (bits-of-T : ℕ) (l : List ℕ) (bits-of-L : ℕ) (counts : List ℕ) (n p : ℕ) : Type 0 where
-  height : n ≡ 1 → p ≡ 0 → (High height → ⊥) → TreeBreaks height t bits-of-T l bits-of-L counts n p
-  size : n ≡ 2 → p ≡ 0 → (Bitmap t bits-of-T × Bitmap l bits-of-L → ⊥) → TreeBreaks height t bits-of-T l bits-of-L counts n p
-  levels : n ≡ 3 → p ≡ 0 → (Sized height (bits t bits-of-T) (bits l bits-of-L) → ⊥) → TreeBreaks height t bits-of-T l bits-of-L counts n p
-  hollow : n ≡ 4 → Hollow (bits t bits-of-T ++ bits l bits-of-L) p → TreeBreaks height t bits-of-T l bits-of-L counts n p
-  spare_t : n ≡ 5 → p ≡ 0 → (Spared t bits-of-T → ⊥) → TreeBreaks height t bits-of-T l bits-of-L counts n p
-  spare_l : n ≡ 5 → p ≡ 1 → (Spared l bits-of-L → ⊥) → TreeBreaks height t bits-of-T l bits-of-L counts n p
-  short : n ≡ 6 → p ≡ length counts → length counts ≤ bits-of-T / spacing → TreeBreaks height t bits-of-T l bits-of-L counts n p
-  wrong : n ≡ 6 → bits-of-T / spacing < length counts → p ≤ bits-of-T / spacing → (slice_index counts p ≢ ones_before t (spacing * p))
-      → TreeBreaks height t bits-of-T l bits-of-L counts n p
+pub data TreeBreaks (height : ℕ) (t : List ℕ) (bits_of_t : ℕ) (l : List ℕ) (bits_of_l : ℕ) (counts : List ℕ) (n p : ℕ) : Type 0 where
+  height : n ≡ 1 → p ≡ 0 → (High height → ⊥) → TreeBreaks height t bits_of_t l bits_of_l counts n p
+  size : n ≡ 2 → p ≡ 0 → (Bitmap t bits_of_t × Bitmap l bits_of_l → ⊥) → TreeBreaks height t bits_of_t l bits_of_l counts n p
+  levels : n ≡ 3 → p ≡ 0 → (Sized height (bits t bits_of_t) (bits l bits_of_l) → ⊥) → TreeBreaks height t bits_of_t l bits_of_l counts n p
+  hollow : n ≡ 4 → Hollow (bits t bits_of_t ++ bits l bits_of_l) p → TreeBreaks height t bits_of_t l bits_of_l counts n p
+  spare_t : n ≡ 5 → p ≡ 0 → (Spared t bits_of_t → ⊥) → TreeBreaks height t bits_of_t l bits_of_l counts n p
+  spare_l : n ≡ 5 → p ≡ 1 → (Spared l bits_of_l → ⊥) → TreeBreaks height t bits_of_t l bits_of_l counts n p
+  short : n ≡ 6 → p ≡ length counts → length counts ≤ bits_of_t / spacing → TreeBreaks height t bits_of_t l bits_of_l counts n p
+  wrong : n ≡ 6 → bits_of_t / spacing < length counts → p ≤ bits_of_t / spacing → (slice_index counts p ≢ ones_before t (spacing * p))
+      → TreeBreaks height t bits_of_t l bits_of_l counts n p
 
 -- so many bytes are too few for so many bits, or the bits are too many
 abbrev pub Cramped : ℕ → ℕ → Type 0
 Cramped bytes n = (8 * bytes < n) ⊎ (most_bits < n)
 
 -- the rules for writing a tree into buffers of so many bytes: rule n is broken at place p
-pub data WriterBreaks (codes : List ℕ) (height bytes-of-T bytes-of-L n p : ℕ) : Type 0 where
-  height : n ≡ 1 → p ≡ 0 → (High height → ⊥) → WriterBreaks codes height bytes-of-T bytes-of-L n p
-  list : ListRefused codes (n, p) → WriterBreaks codes height bytes-of-T bytes-of-L n p
-  large : n ≡ 8 → p < length codes → parts ^ height ≤ slice_index codes p → WriterBreaks codes height bytes-of-T bytes-of-L n p
-  room_t : n ≡ 9 → p ≡ 0 → Cramped bytes-of-T (length (encode_t height codes)) → WriterBreaks codes height bytes-of-T bytes-of-L n p
-  room_l : n ≡ 9 → p ≡ 1 → Cramped bytes-of-L (length (encode_l height codes)) → WriterBreaks codes height bytes-of-T bytes-of-L n p
+pub data WriterBreaks (codes : List ℕ) (height bytes_of_t bytes_of_l n p : ℕ) : Type 0 where
+  height : n ≡ 1 → p ≡ 0 → (High height → ⊥) → WriterBreaks codes height bytes_of_t bytes_of_l n p
+  list : ListRefused codes (n, p) → WriterBreaks codes height bytes_of_t bytes_of_l n p
+  large : n ≡ 8 → p < length codes → parts ^ height ≤ slice_index codes p → WriterBreaks codes height bytes_of_t bytes_of_l n p
+  room_t : n ≡ 9 → p ≡ 0 → Cramped bytes_of_t (length (encode_t height codes)) → WriterBreaks codes height bytes_of_t bytes_of_l n p
+  room_l : n ≡ 9 → p ≡ 1 → Cramped bytes_of_l (length (encode_l height codes)) → WriterBreaks codes height bytes_of_t bytes_of_l n p

@@ -1,5 +1,5 @@
 // Bits of a bitmap, and how many are 1.
-ghost use Rattle.std.specs.Prelude.{◌≡◌, ℕ, ◌+◌, ◌-◌, ◌*◌, ◌/◌, ◌%◌, ◌^◌, ◌<◌, ◌≤◌, length, Decides};
+ghost use Rattle.std.specs.Prelude.{◌≡◌, ◌+◌, ◌*◌, ◌/◌, ◌^◌, ◌<◌, ◌≤◌, length, Decides};
 ghost use Rattle.tree.specs.Bitmaps.{bit};
 ghost use Rattle.tree.specs.Reader.{Bitmap, Directory, ones_before, Spared};
 

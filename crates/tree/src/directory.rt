@@ -1,5 +1,5 @@
 // The directory: how many ones of T stand before each 512th bit.
-ghost use Rattle.std.specs.Prelude.{◌≡◌, ℕ, ◌+◌, ◌-◌, ◌*◌, ◌/◌, ◌<◌, ◌≤◌, length, MatchOption, MatchResult, ◌≢◌, slice_index};
+ghost use Rattle.std.specs.Prelude.{◌≡◌, ℕ, ◌+◌, ◌*◌, ◌/◌, ◌<◌, ◌≤◌, length, MatchOption, MatchResult, ◌≢◌, slice_index};
 ghost use Rattle.tree.specs.Faults.{DirectoryBreaks, First, tree_numbered};
 ghost use Rattle.tree.specs.Reader.{Bitmap, Directory, ones_before, spacing};
 

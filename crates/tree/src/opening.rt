@@ -1,5 +1,5 @@
 // What opening a tree checks.
-ghost use Rattle.std.specs.Prelude.{◌≡◌, ℕ, ◌+◌, ◌-◌, ◌*◌, ◌/◌, ◌%◌, ◌^◌, ◌<◌, ◌≤◌, Bool, List, [], ◌++◌, length, is_ok, Decides, MatchOption, MatchResult};
+ghost use Rattle.std.specs.Prelude.{◌≡◌, ℕ, ◌*◌, ◌%◌, ◌^◌, ◌<◌, ◌≤◌, Bool, List, [], ◌++◌, length, is_ok, Decides, MatchOption, MatchResult};
 ghost use Rattle.tree.specs.Bitmaps.{AllFilledBelow, bits, Filled, Sized};
 ghost use Rattle.tree.specs.Faults.{First, Hollow, TreeBreaks, tree_numbered};
 ghost use Rattle.tree.specs.Held.{cells_of, Reads};
