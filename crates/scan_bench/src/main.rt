@@ -1,7 +1,6 @@
 // How many pairs of cells the scan looks at, of all that there are, on films of four kinds.
 #![tactic(auto)]
 
-
 use anyhow::anyhow;
 use board::cell::Cell;
 use board::measure::{Amount, Measure, Squared};

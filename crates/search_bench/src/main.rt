@@ -1,7 +1,6 @@
 // What a key costs: how many squares of B the search asks about, and how many it puts on its list, on films of three kinds and two sizes.
 #![tactic(auto)]
 
-
 use anyhow::anyhow;
 use board::cell::Cell;
 use board::measure::Squared;

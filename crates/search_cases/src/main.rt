@@ -1,7 +1,6 @@
 // Keys and partners, first cells, walks and waiting lists, shown case by case: on the eight by eight cells of the southwest corner, and on cells far apart.
 #![tactic(auto)]
 
-
 use anyhow::anyhow;
 use board::cell::Cell;
 use board::measure::{Amount, Greater, Measure, Squared, Sum};
