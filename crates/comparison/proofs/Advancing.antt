@@ -1,5 +1,5 @@
 -- The parts of a step, joined.
-use Rattle.std.proofs.Common.{◌≡◌, ℕ, suc, ◌+◌, ◌-◌, ◌*◌, ◌^◌, ◌<◌, ◌≤◌, min, Bool, true, false, ◌⊎◌, List, [], ◌∷◌, ◌++◌, length, sum_by, sym, refl, ap, ◌∙◌, subst, inl, inr, append_assoc, add-one, arith, length-append}
+use Rattle.std.proofs.Common.{◌≡◌, ℕ, suc, ◌+◌, ◌-◌, ◌<◌, ◌≤◌, Bool, true, false, List, [], ◌∷◌, ◌++◌, length, sum_by, sym, refl, ap, ◌∙◌, subst, append_assoc, add-one, arith, length-append}
 use Rattle.std.specs.List.Sorted.{IsPermutation}
 use Rattle.std.specs.List.{AllByRecursion}
 use Rattle.std.proofs.lemmas.List.Sorted.{IsPermutation-refl, IsPermutation-sym, IsPermutation-trans, IsPermutation-cons, length_permutation, sum_by-IsPermutation}
@@ -10,9 +10,7 @@ use Rattle.search.specs.Offers.{weight}
 use Rattle.search.specs.WaitingLists.{waiting, room, Added, Ready}
 use Rattle.search.specs.declared.waiting.WaitingList.{WaitingList}
 use Rattle.store.specs.declared.store.Answer.{Answer}
-use Rattle.store.specs.declared.store.Answer.TheVariants.{Empty}
 use Rattle.comparison.specs.declared.comparison.Comparison.{Comparison}
-use Rattle.comparison.specs.declared.record.Figures.{Figures}
 use Rattle.comparison.specs.declared.record.Record.{Record}
 use Rattle.comparison.specs.declared.suspect.Suspect.{Suspect}
 use Rattle.comparison.specs.declared.trial.Trial.{Trial}
@@ -22,7 +20,7 @@ use Rattle.board.specs.Squares.{Inside, OnBoard}
 use Rattle.comparison.specs.Calls.{Improves, Right, Picked, Handled, Tried, counted, part}
 use Rattle.comparison.specs.Calls.Picked.{none, pick, pass_empty, pass}
 use Rattle.comparison.specs.Calls.Handled.{dropped, settled, opened, sunk}
-use Rattle.comparison.specs.Comparisons.{InOrder, world, On}
+use Rattle.comparison.specs.Comparisons.{world, On}
 use Rattle.comparison.specs.Suspects.{ordered, first_code}
 use Rattle.comparison.specs.Trials.{over, Stays}
 use Rattle.comparison.specs.World.{World, KeyedAt}

@@ -1,17 +1,15 @@
 -- Each call, joined from its parts.
-use Rattle.std.proofs.Common.{◌≡◌, ℕ, ◌+◌, ◌-◌, ◌<◌, ◌≤◌, max, Bool, true, false, ◌⊎◌, List, [], ◌∷◌, ◌++◌, length, Some, None, sym, refl, ap, ◌∙◌, subst, inl, inr, arith}
+use Rattle.std.proofs.Common.{◌≡◌, ℕ, ◌-◌, ◌<◌, ◌≤◌, Bool, true, false, ◌⊎◌, List, [], ◌∷◌, length, Some, None, sym, refl, ap, ◌∙◌, subst, inl, inr, arith}
 use Rattle.std.specs.Ordering.{is_lt}
-use Rattle.std.specs.List.Sorted.{IsPermutation}
 use Rattle.std.specs.List.{ContainsAt as Has, AllByRecursion}
-use Rattle.std.proofs.ByRecursion.{all-has, all_has_itself, All-weaker, all_shuffled}
-use Rattle.std.proofs.lemmas.List.Sorted.{length_permutation}
+use Rattle.std.proofs.ByRecursion.{all-has, All-weaker, all_shuffled}
 use Rattle.std.proofs.lemmas.Bool.{cases_lt, false≢true}
 use Rattle.board.specs.Findings.{code_of}
 use Rattle.board.specs.Measures.{MeasureLaws}
 use Rattle.board.specs.Squares.{OnBoard}
 use Rattle.board.specs.declared.cell.Cell.{Cell}
-use Rattle.search.specs.Firsts.{NoneHeld, FirstHeld}
-use Rattle.search.specs.WaitingLists.{waiting, room, Added, Taken, Shown, InHeap, FirstIn}
+use Rattle.search.specs.Firsts.{FirstHeld}
+use Rattle.search.specs.WaitingLists.{waiting, room, Taken, InHeap, FirstIn}
 use Rattle.search.specs.declared.waiting.WaitingList.{WaitingList}
 use Rattle.store.specs.Stores.{Holds, StoreFacts}
 use Rattle.store.specs.declared.store.Answer.{Answer}
@@ -20,22 +18,21 @@ use Rattle.comparison.specs.declared.call.Call.TheVariants.{Begin, Step, Probe, 
 use Rattle.comparison.specs.declared.call.Outcome.{Outcome}
 use Rattle.comparison.specs.declared.call.Outcome.TheVariants.{Begun, Stepped, Probed, Looked, Answered, Refused}
 use Rattle.comparison.specs.declared.comparison.Comparison.{Comparison}
-use Rattle.comparison.specs.declared.fault.Fault.{Fault}
-use Rattle.comparison.specs.declared.fault.Fault.TheVariants.{NoFilmCell, NoDrawingCell, NoSuspectPlace, NoNeighbourPlace, NotHeld, NothingWaits, NeverBegun, Waits}
+use Rattle.comparison.specs.declared.fault.Fault.TheVariants.{NothingWaits, Waits}
 use Rattle.comparison.specs.declared.suspect.Suspect.{Suspect}
 use Rattle.comparison.specs.declared.trial.Trial.{Trial}
 use Rattle.comparison.specs.Advances.{Handles, Started}
-use Rattle.comparison.specs.Calls.{State, Said, Does, Begins, Steps, Probes, Looks, Results, Tried, Handled, high, greatest_key, said}
-use Rattle.comparison.specs.Calls.Said.{begun, stepped, probed, looked, answered, refused}
-use Rattle.comparison.specs.Calls.Begins.{begins, no_suspects, no_neighbours, no_film, no_drawing}
-use Rattle.comparison.specs.Calls.Steps.{steps, step_early, step_late}
-use Rattle.comparison.specs.Calls.Probes.{probes, not_held, probe_early}
-use Rattle.comparison.specs.Calls.Looks.{looks, look_early}
-use Rattle.comparison.specs.Calls.Results.{results, result_early, result_waits}
+use Rattle.comparison.specs.Calls.{State, Does, Steps, Probes, Looks, Results, Tried, Handled, high, greatest_key, said}
+use Rattle.comparison.specs.Calls.Said.{probed, looked, answered, refused}
+use Rattle.comparison.specs.Calls.Begins.{begins}
+use Rattle.comparison.specs.Calls.Steps.{steps, step_late}
+use Rattle.comparison.specs.Calls.Probes.{probes}
+use Rattle.comparison.specs.Calls.Looks.{looks}
+use Rattle.comparison.specs.Calls.Results.{results, result_waits}
 use Rattle.comparison.specs.Comparisons.{InOrder, Did, world, state, On}
 use Rattle.comparison.specs.Suspects.{ordered, suspects, before}
 use Rattle.comparison.specs.Trials.{over, Stays}
-use Rattle.comparison.specs.World.{World, Facts, InFilm, KeyedAt}
+use Rattle.comparison.specs.World.{Facts, InFilm, KeyedAt}
 use Rattle.comparison.proofs.Advancing.{over_places}
 use Rattle.comparison.proofs.Keeping.{one_more, greatest-below, keys_below}
 use Rattle.comparison.specs.SuspectFacts.{suspects_are_ordered}

@@ -1,10 +1,9 @@
 -- The relation leaves no choice.
-use Rattle.std.proofs.Common.{◌≡◌, ℕ, suc, ◌+◌, ◌-◌, ◌*◌, ◌<◌, ◌≤◌, max, Bool, true, false, ◌⊎◌, List, [], ◌∷◌, ◌++◌, length, sum_by, Ordering, Less, Equal, Greater, sym, refl, ap, ◌∙◌, subst, ap₂, inl, inr, arith}
-use Rattle.std.specs.Cmp.{IsTotalOrder}
+use Rattle.std.proofs.Common.{◌≡◌, ℕ, ◌+◌, ◌-◌, ◌*◌, ◌≤◌, max, true, false, ◌⊎◌, List, [], ◌∷◌, ◌++◌, length, sum_by, Ordering, Less, Equal, Greater, sym, refl, ap, ◌∙◌, subst, ap₂, inl, inr, arith}
 use Rattle.std.specs.Ordering.{is_lt, ordering_reverse}
 use Rattle.std.specs.List.Sorted.{IsPermutation}
-use Rattle.std.specs.List.{ContainsAt as Has, AllByRecursion}
-use Rattle.std.proofs.ByRecursion.{all-has, all_has_itself, all_shuffled}
+use Rattle.std.specs.List.{AllByRecursion}
+use Rattle.std.proofs.ByRecursion.{all_shuffled}
 use Rattle.std.proofs.lemmas.List.Sorted.{IsPermutation-refl, IsPermutation-sym, IsPermutation-trans, IsPermutation-cons, IsPermutation-swap, length_permutation, sum_by-IsPermutation}
 use Rattle.std.proofs.lemmas.List.Sums.{sum_by-cons}
 use Rattle.std.proofs.lemmas.Bool.{false≢true, both_ways}
@@ -16,7 +15,7 @@ use Rattle.comparison.specs.declared.call.Call.{Call}
 use Rattle.comparison.specs.declared.call.Call.TheVariants.{Begin, Step, Probe, Look, Result}
 use Rattle.comparison.specs.declared.record.Figures.{Figures}
 use Rattle.comparison.specs.Calls.{State, Said, Does, Run, Begins, Steps, Probes, Looks, Results, Advanced, Opening, Tried, Source, Picked, Handled, Right, Improves, part, high, greatest_key, counted}
-use Rattle.comparison.specs.Calls.Said.{begun, stepped, probed, looked, answered, refused}
+use Rattle.comparison.specs.Calls.Said.{answered, refused}
 use Rattle.comparison.specs.Calls.Picked.{none, pick, pass_empty, pass}
 use Rattle.comparison.specs.Calls.Handled.{dropped, settled, opened, sunk}
 use Rattle.comparison.specs.Calls.Begins.{begins, no_suspects, no_neighbours, no_film, no_drawing}

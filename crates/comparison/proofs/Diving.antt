@@ -1,12 +1,12 @@
 -- A walk on which the cells of a square are tried.
-use Rattle.std.proofs.Common.{◌≡◌, ℕ, ◌-◌, ◌/◌, ◌^◌, ◌<◌, ◌≤◌, Bool, true, false, not, ◌⊎◌, Decides, sym, refl, ap, ◌∙◌, subst, inl, inr, div-one, arith}
+use Rattle.std.proofs.Common.{◌≡◌, ℕ, ◌-◌, ◌≤◌, Bool, true, false, not, Decides, sym, refl, ◌∙◌, subst, inl, inr, div-one, arith}
 use Rattle.std.proofs.lemmas.Bool.{false≢true, both_ways}
-use Rattle.board.specs.Squares.{Inside, OnBoard}
+use Rattle.board.specs.Squares.{Inside}
 use Rattle.board.specs.declared.square.Square.{Square}
 use Rattle.search.specs.Descents.{Under}
-use Rattle.search.specs.Visits.{Reached, Later, Met}
+use Rattle.search.specs.Visits.{Met}
 use Rattle.search.proofs.Laters.{later_same}
-use Rattle.store.specs.Stores.{counts, Counts, Holds, StoreFacts}
+use Rattle.store.specs.Stores.{counts, Holds, StoreFacts}
 use Rattle.store.specs.declared.store.Answer.{Answer}
 use Rattle.store.specs.declared.store.Answer.TheVariants.{Empty}
 use Rattle.store.proofs.Sounds.{empty_holds_none}
@@ -14,7 +14,7 @@ use Rattle.comparison.specs.declared.record.Figures.{Figures}
 use Rattle.comparison.specs.declared.trial.Trial.{Trial}
 use Rattle.comparison.specs.Calls.{Improves, Source, Tried}
 use Rattle.comparison.specs.Trials.{over, Stays, floor, since, done, Dived, comes}
-use Rattle.comparison.specs.World.{World, InFilm, KeyedAt}
+use Rattle.comparison.specs.World.{InFilm, KeyedAt}
 
 -- what improves figures that improve others improves these too
 pub improves_onward : (f g : Figures) (k c : ℕ) → Improves f g.low g.film → Improves g k c → Improves f k c

@@ -1,5 +1,5 @@
 -- The runs over real stores.
-use Rattle.std.proofs.Common.{◌≡◌, ℕ, zero, suc, ◌+◌, ◌-◌, ◌*◌, ◌/◌, ◌^◌, ◌<◌, ◌≤◌, min, true, false, ◌⊎◌, List, [], ◌∷◌, ◌++◌, get_or, replicate, sym, refl, ap, ◌∙◌, subst, inl, inr, div-one, add-one, arith}
+use Rattle.std.proofs.Common.{◌≡◌, ℕ, zero, suc, ◌-◌, ◌/◌, ◌^◌, ◌<◌, ◌≤◌, true, ◌⊎◌, List, [], ◌∷◌, ◌++◌, get_or, replicate, sym, refl, ap, ◌∙◌, subst, inl, inr, div-one, add-one, arith}
 use native.Mathlib.Nat.{div-eq_of_lt, pow-le-pow_right}
 use Rattle.std.proofs.lemmas.List.Sorted.{IsPermutation-refl}
 use Rattle.board.specs.Distances.{distance, far}
@@ -10,16 +10,16 @@ use Rattle.board.specs.Spans.{first, last, greatest, gap}
 use Rattle.board.specs.Squares.{OnBoard, Inside}
 use Rattle.board.proofs.Boards.{four_positive}
 use Rattle.board.proofs.Bounded.{bounds}
-use Rattle.store.specs.Exact.{Shares, Exactly, exact, occupied}
+use Rattle.store.specs.Exact.{exact, occupied}
 use Rattle.store.specs.ExactFacts.{exact_facts, exactly_list, else_empty, empty_no_count}
-use Rattle.store.specs.Stores.{Counts, Holds}
+use Rattle.store.specs.Stores.{Counts}
 use Rattle.store.specs.declared.store.Answer.TheVariants.{Empty}
 use Rattle.comparison.specs.declared.call.Call.{Call}
-use Rattle.comparison.specs.declared.call.Call.TheVariants.{Begin, Step, Probe, Look, Result}
+use Rattle.comparison.specs.declared.call.Call.TheVariants.{Begin, Step}
 use Rattle.comparison.specs.declared.record.Figures.{Figures}
 use Rattle.comparison.specs.declared.suspect.Suspect.{Suspect}
-use Rattle.comparison.specs.Calls.{State, Said, Run, Advanced, Opening, Picked, Tried, Improves, fresh}
-use Rattle.comparison.specs.Calls.Said.{begun, stepped, probed, answered, refused}
+use Rattle.comparison.specs.Calls.{State, Said, Run, Advanced, Opening, Tried, Improves, fresh}
+use Rattle.comparison.specs.Calls.Said.{begun, stepped}
 use Rattle.comparison.specs.Calls.Picked.{none, pick, pass_empty, pass}
 use Rattle.comparison.specs.Calls.Handled.{dropped, settled, opened, sunk}
 use Rattle.comparison.specs.Calls.Begins.{begins}
@@ -27,7 +27,7 @@ use Rattle.comparison.specs.Calls.Steps.{steps, step_early, step_late}
 use Rattle.comparison.specs.Calls.Probes.{probes, not_held}
 use Rattle.comparison.specs.Calls.Results.{results, result_waits}
 use Rattle.comparison.specs.Calls.Run.{stop, next}
-use Rattle.comparison.specs.Examples.{films, film_codes, drawing_codes, corner, beside, RunsExist}
+use Rattle.comparison.specs.Examples.{films, film_codes, drawing_codes, RunsExist}
 use Rattle.comparison.specs.World.{Facts, InFilm, KeyedAt}
 use Rattle.comparison.proofs.Keying.{laws}
 

@@ -1,9 +1,8 @@
 -- The distance exists, wherever film and drawing hold a cell.
-use Rattle.std.proofs.Common.{◌≡◌, ℕ, zero, suc, ◌+◌, ◌-◌, ◌*◌, ◌/◌, ◌%◌, ◌^◌, ◌<◌, ◌≤◌, Bool, true, false, ◌⊎◌, sym, refl, ap, ◌∙◌, subst, inl, inr, le_trans, arith}
+use Rattle.std.proofs.Common.{◌≡◌, ℕ, zero, suc, ◌-◌, ◌^◌, ◌<◌, ◌≤◌, true, false, ◌⊎◌, sym, refl, ◌∙◌, subst, inl, inr, arith}
 use Rattle.std.proofs.lemmas.Bool.{cases_lt, cases_Bool, both_ways}
 use Rattle.board.proofs.Bounded.{bounds}
-use Rattle.store.specs.Stores.{counts, Counts, Holds, StoreFacts}
-use Rattle.store.proofs.Sounds.{held_on_board}
+use Rattle.store.specs.Stores.{counts, Holds, StoreFacts}
 use Rattle.store.specs.declared.store.Answer.{Answer}
 use Rattle.comparison.specs.World.{World, Facts, InFilm, InDrawing, NearestTo, Strayed, dist}
 use Rattle.comparison.proofs.Keying.{last, film_code, drawing_code}

@@ -1,5 +1,5 @@
 -- Steps to the end.
-use Rattle.std.proofs.Common.{◌≡◌, ℕ, zero, suc, ◌+◌, ◌<◌, ◌≤◌, min, true, false, List, [], ◌∷◌, ◌++◌, replicate, Some, None, sum_by, sym, refl, ap, ◌∙◌, subst, arith}
+use Rattle.std.proofs.Common.{◌≡◌, ℕ, zero, suc, ◌+◌, true, List, [], ◌∷◌, ◌++◌, replicate, Some, None, sum_by, sym, refl, ap, ◌∙◌, subst, arith}
 use Rattle.board.specs.Measures.{MeasureLaws}
 use Rattle.std.specs.List.{AllByRecursion}
 use Rattle.std.proofs.lemmas.List.Sorted.{sum_by-IsPermutation}
@@ -14,15 +14,14 @@ use Rattle.comparison.specs.declared.call.Call.TheVariants.{Step}
 use Rattle.comparison.specs.declared.call.Outcome.TheVariants.{Stepped}
 use Rattle.comparison.specs.declared.comparison.Comparison.{Comparison}
 use Rattle.comparison.specs.declared.suspect.Suspect.{Suspect}
-use Rattle.comparison.specs.Calls.{State, Said, Does, Steps, Run, counted, said}
+use Rattle.comparison.specs.Calls.{State, Said, Does, Steps, Run, counted}
 use Rattle.comparison.specs.Calls.Said.{stepped}
 use Rattle.comparison.specs.Calls.Steps.{steps}
 use Rattle.comparison.specs.Calls.Run.{stop, next}
 use Rattle.comparison.specs.Comparisons.{InOrder, Did, Finished, world, state, On}
-use Rattle.comparison.specs.Law.{Reached, Lawful}
 use Rattle.comparison.specs.Suspects.{ordered}
 use Rattle.comparison.specs.Trials.{over}
-use Rattle.comparison.specs.World.{World, Facts}
+use Rattle.comparison.specs.World.{World}
 use Rattle.comparison.proofs.Calling.{facts}
 use Rattle.comparison.proofs.Keeping.{extended, law}
 

@@ -1,5 +1,5 @@
 -- What a step does with the square that it took, in the words of the invariant.
-use Rattle.std.proofs.Common.{◌≡◌, ℕ, zero, suc, ◌+◌, ◌-◌, ◌*◌, ◌/◌, ◌%◌, ◌^◌, ◌<◌, ◌≤◌, min, max, ◌⊎◌, List, [], ◌∷◌, ◌++◌, length, sum_by, sym, refl, ap, ◌∙◌, subst, inl, inr, le_trans, add-zero, pow-suc, mul-one, add-one, arith}
+use Rattle.std.proofs.Common.{◌≡◌, ℕ, zero, suc, ◌+◌, ◌*◌, ◌/◌, ◌%◌, ◌^◌, ◌<◌, ◌≤◌, min, ◌⊎◌, List, length, sum_by, sym, refl, ap, ◌∙◌, subst, inl, inr, le_trans, pow-suc, mul-one, add-one, arith}
 use Rattle.std.specs.List.{AllByRecursion}
 use Rattle.std.proofs.lemmas.Bool.{cases_lt}
 use Rattle.std.proofs.lemmas.List.Sums.{sum_by-cons}
@@ -9,7 +9,7 @@ use Rattle.board.specs.Squares.{Inside}
 use Rattle.comparison.specs.declared.record.Figures.{Figures}
 use Rattle.comparison.specs.declared.suspect.Suspect.{Suspect}
 use Rattle.comparison.specs.Suspects.{first_code}
-use Rattle.comparison.specs.World.{World, Facts, InFilm, InDrawing, NearestTo, KeyedAt, dist, squares_in, unless_empty, sum_to}
+use Rattle.comparison.specs.World.{World, Facts, InFilm, NearestTo, KeyedAt, dist, squares_in, unless_empty, sum_to}
 use Rattle.comparison.specs.Calls.{Improves, Right, Tried, Picked, Handled, part}
 use Rattle.comparison.specs.Calls.Picked.{none, pick, pass_empty, pass}
 use Rattle.comparison.specs.Calls.Handled.{dropped, settled, opened, sunk}

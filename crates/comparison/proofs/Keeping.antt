@@ -1,5 +1,5 @@
 -- What each call keeps, and the law.
-use Rattle.std.proofs.Common.{◌≡◌, ℕ, zero, suc, ◌+◌, ◌-◌, ◌*◌, ◌/◌, ◌%◌, ◌^◌, ◌<◌, ◌≤◌, min, max, Bool, true, false, ◌⊎◌, List, [], ◌∷◌, ◌++◌, length, sum_by, sym, refl, ap, ◌∙◌, subst, inl, inr, le_trans, arith, length-append}
+use Rattle.std.proofs.Common.{◌≡◌, ℕ, ◌+◌, ◌*◌, ◌/◌, ◌^◌, ◌<◌, ◌≤◌, true, false, ◌⊎◌, List, [], ◌∷◌, ◌++◌, length, sum_by, sym, refl, ap, ◌∙◌, subst, inl, inr, arith, length-append}
 use Rattle.std.specs.List.{AllByRecursion}
 use Rattle.std.proofs.lemmas.Bool.{cases_lt, cases_eq, both_ways}
 use Rattle.std.proofs.lemmas.List.Sums.{sum_by-cons, sum_by-append}
@@ -11,10 +11,9 @@ use Rattle.comparison.specs.declared.call.Call.{Call}
 use Rattle.comparison.specs.declared.call.Call.TheVariants.{Begin, Step, Probe, Look, Result}
 use Rattle.comparison.specs.declared.record.Figures.{Figures}
 use Rattle.comparison.specs.declared.suspect.Suspect.{Suspect}
-use Rattle.comparison.specs.Suspects.{first_code}
 use Rattle.comparison.specs.World.{World, Facts, InFilm, InDrawing, NearestTo, Strayed, dist, squares_in}
-use Rattle.comparison.specs.Calls.{State, Said, Does, Run, Begins, Steps, Probes, Looks, Results, Advanced, Opening, Tried, Improves, fresh, high, greatest_key, counted}
-use Rattle.comparison.specs.Calls.Said.{begun, stepped, probed, looked, answered, refused}
+use Rattle.comparison.specs.Calls.{State, Said, Does, Run, Begins, Steps, Probes, Looks, Results, Advanced, Opening, Tried, fresh, high, greatest_key}
+use Rattle.comparison.specs.Calls.Said.{begun, answered, refused}
 use Rattle.comparison.specs.Calls.Begins.{begins, no_suspects, no_neighbours, no_film, no_drawing}
 use Rattle.comparison.specs.Calls.Steps.{steps, step_early, step_late}
 use Rattle.comparison.specs.Calls.Probes.{probes, not_held, probe_early}
@@ -24,7 +23,7 @@ use Rattle.comparison.specs.Calls.Run.{stop, next}
 use Rattle.comparison.specs.Law.{GoesOn, Sound, TrueOf, Narrows, Lawful, Law, KeptBy, Reached, RunsKeepTheLaw}
 use Rattle.comparison.proofs.Keying.{key_bounds, cell_key, not_empty, on_board, film_code}
 use Rattle.comparison.proofs.Existing.{strays_exists, strays_from}
-use Rattle.comparison.proofs.Handling.{Settled, Outside, settled_from, Entry, Shown, entry_settles, size, size_pos, size_most, better, covers, entries, keys, smaller, in_room, shown, low_rises, low_bound, tried_better, tried_shown, tried_low, tried_bound}
+use Rattle.comparison.proofs.Handling.{Settled, Outside, Entry, Shown, size, size_pos, size_most, better, covers, entries, keys, smaller, in_room, shown, low_rises, low_bound, tried_better, tried_shown, tried_low, tried_bound}
 
 -- all of two lists, apart
 pub all_left : {X : Type 0} (P : X → Type 0) (xs ys : List X) → AllByRecursion P (xs ++ ys) → AllByRecursion P xs

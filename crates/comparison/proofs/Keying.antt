@@ -1,11 +1,9 @@
 -- Keys and the cells of a square, over a world whose stores and measure owe their facts.
-use Rattle.std.proofs.Common.{◌≡◌, ℕ, zero, suc, ◌+◌, ◌-◌, ◌*◌, ◌/◌, ◌%◌, ◌^◌, ◌<◌, ◌≤◌, min, ◌⊎◌, sym, refl, ap, ◌∙◌, subst, inl, inr, le_trans, pow-suc, div-mul-le_self, div-one, add-one, arith}
+use Rattle.std.proofs.Common.{◌≡◌, ℕ, suc, ◌+◌, ◌*◌, ◌/◌, ◌%◌, ◌^◌, ◌<◌, ◌≤◌, min, ◌⊎◌, sym, refl, ap, ◌∙◌, inl, inr, le_trans, pow-suc, div-mul-le_self, div-one, arith}
 use native.Mathlib.Nat.{div-div-eq-div-mul, div-eq_of_lt}
 use Rattle.std.proofs.lemmas.Bool.{cases_lt}
-use Rattle.board.specs.Distances.{distance, Bounds}
 use Rattle.board.proofs.Bounded.{bounds}
 use Rattle.search.specs.Keys.{KeyLaws}
-use Rattle.search.proofs.Counting.{counted_on_board, not_both}
 use Rattle.search.proofs.Keying.{key_laws}
 use Rattle.store.proofs.Sounds.{empty_holds_none, held_on_board}
 use Rattle.store.specs.Stores.{counts, Counts}

@@ -1,15 +1,14 @@
 -- Lists of calls, one call after the other.
-use Rattle.std.proofs.Common.{◌≡◌, ℕ, List, [], ◌∷◌, ◌++◌, map, sym, refl, ap, ◌∙◌, subst, ap₂}
+use Rattle.std.proofs.Common.{◌≡◌, ℕ, List, [], ◌∷◌, ◌++◌, map, sym, refl, ap, ◌∙◌, subst}
 use Rattle.board.specs.Measures.{MeasureLaws}
 use Rattle.store.specs.Stores.{StoreFacts}
 use Rattle.store.specs.declared.store.Answer.{Answer}
 use Rattle.comparison.specs.declared.call.Call.{Call}
 use Rattle.comparison.specs.declared.call.Outcome.{Outcome}
 use Rattle.comparison.specs.declared.comparison.Comparison.{Comparison}
-use Rattle.comparison.specs.Calls.{Said, Does, Run, fresh, said}
-use Rattle.comparison.specs.Calls.Run.{stop, next}
+use Rattle.comparison.specs.Calls.{Does, Run, said}
+use Rattle.comparison.specs.Calls.Run.{stop}
 use Rattle.comparison.specs.Comparisons.{InOrder, Did, Ran, world, state}
-use Rattle.comparison.specs.World.{World}
 use Rattle.comparison.proofs.Calling.{facts}
 use Rattle.comparison.proofs.Keeping.{extended, law}
 

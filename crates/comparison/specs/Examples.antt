@@ -3,9 +3,9 @@ use Rattle.std.specs.Prelude.{◌≡◌, ℕ, List, [], ◌∷◌, ◌++◌, rep
 use Rattle.board.specs.Measures.{squared}
 use Rattle.board.specs.declared.cell.Cell.{Cell}
 use Rattle.store.specs.Exact.{exact}
-use Rattle.comparison.specs.declared.call.Call.TheVariants.{Begin, Step, Probe, Look, Result}
+use Rattle.comparison.specs.declared.call.Call.TheVariants.{Begin, Step, Probe, Result}
 use Rattle.comparison.specs.Calls.{State, Run, fresh}
-use Rattle.comparison.specs.Calls.Said.{begun, stepped, probed, looked, answered, refused}
+use Rattle.comparison.specs.Calls.Said.{begun, stepped, probed, answered, refused}
 use Rattle.comparison.specs.World.{World, Facts}
 
 abbrev pub film_codes : List ℕ

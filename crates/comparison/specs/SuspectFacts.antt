@@ -1,5 +1,5 @@
 -- The order of suspects: why it is as it is said to be.
-use Rattle.std.proofs.Common.{◌≡◌, ◌==◌, ◌&&◌, is_eq, ℕ, ◌*◌, ◌^◌, ◌<◌, ◌≤◌, min, true, false, Ordering, Less, Equal, Greater, sym, refl, ap, ◌∙◌, subst, ap₂, arith}
+use Rattle.std.proofs.Common.{◌≡◌, ◌==◌, ◌&&◌, is_eq, ℕ, ◌*◌, ◌^◌, ◌<◌, min, Ordering, Less, Equal, Greater, sym, refl, ap, ◌∙◌, subst, ap₂, arith}
 use native.Mathlib.Nat.{eq_of_mul-eq-mul_right}
 use Rattle.std.specs.Cmp.{nat_cmp_is, ranks}
 use Rattle.std.specs.Ordering.{MatchOrdering, ordering_then, nat_cmp}

@@ -1,5 +1,5 @@
 -- What a comparison is made over, as plain data: the answers of the two stores, the measure, and the places of the two waiting lists.
-use Rattle.std.specs.Prelude.{◌≡◌, ℕ, zero, suc, ◌+◌, ◌*◌}
+use Rattle.std.specs.Prelude.{ℕ, zero, suc, ◌+◌, ◌*◌}
 use Rattle.board.specs.Distances.{distance}
 use Rattle.board.specs.Limits.{parts}
 use Rattle.board.specs.Measures.{MeasureLaws}

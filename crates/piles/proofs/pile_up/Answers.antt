@@ -1,4 +1,3 @@
-use Rattle.std.proofs.Common.{◌≡◌}
 use Rattle.piles.proofs.Piled.{piled_as}
 use Rattle.piles.proofs.pile_up.Goals as goal
 

@@ -1,4 +1,4 @@
-use Rattle.std.proofs.Common.{◌≡◌, ◌<◌, sym, refl, ap, ◌∙◌, subst, arith}
+use Rattle.std.proofs.Common.{◌<◌, sym, subst, arith}
 use Rattle.comparison.specs.Calls.Begins.{no_suspects, no_neighbours, no_film, no_drawing}
 use Rattle.board.specs.Findings.{code_of}
 use Rattle.search.specs.Firsts.{FirstHeld}

@@ -1,4 +1,4 @@
-use Rattle.std.proofs.Common.{◌≡◌, sym, refl, ap, ◌∙◌, subst, arith}
+use Rattle.std.proofs.Common.{arith}
 use Rattle.comparison.proofs.Calling.{did_step}
 use Rattle.comparison.proofs.Finishing.{marching_none, marching_more, marching_rest, finished, taken_weight}
 use Rattle.comparison.proofs.comparison.Comparison.finish.Goals as goal

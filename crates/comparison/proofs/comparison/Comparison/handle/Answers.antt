@@ -1,10 +1,8 @@
-use Rattle.std.proofs.Common.{◌≡◌, sym, refl, ap, ◌∙◌, subst, arith}
+use Rattle.std.proofs.Common.{sym, refl, subst, arith}
 use Rattle.std.proofs.lemmas.Bool.{false≢true}
 use Rattle.comparison.specs.Calls.{Improves}
-use Rattle.comparison.specs.Suspects.{first_code}
 use Rattle.search.proofs.Fronts.{weight_pos, fifth}
 use Rattle.comparison.proofs.Advancing.{handles_dropped, handles_settled, handles_opened, handles_sunk}
-use Rattle.comparison.proofs.Diving.{stays_same}
 use Rattle.comparison.proofs.comparison.Comparison.handle.Goals as goal
 
 pub returns-then-not-improved_by : goal.returns-then-not-improved_by

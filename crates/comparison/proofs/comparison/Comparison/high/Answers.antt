@@ -1,4 +1,4 @@
-use Rattle.std.proofs.Common.{◌≡◌, sym, refl, ap, ◌∙◌, subst, arith}
+use Rattle.std.proofs.Common.{arith}
 use Rattle.search.specs.WaitingLists.{waiting}
 use Rattle.comparison.specs.Suspects.{suspects}
 use Rattle.comparison.proofs.Calling.{first_key}

@@ -1,8 +1,7 @@
-use Rattle.std.proofs.Common.{◌≡◌, true, false, [], ◌∷◌, sym, refl, ap, ◌∙◌, subst, arith}
+use Rattle.std.proofs.Common.{[], ◌∷◌, sym, refl, subst, arith}
 use Rattle.std.proofs.lemmas.Bool.{false≢true}
 use Rattle.comparison.specs.Advances.Offer.{put, pass_empty, pass}
 use Rattle.comparison.specs.Calls.{Improves}
-use Rattle.comparison.specs.Suspects.{first_code}
 use Rattle.comparison.specs.declared.suspect.Suspect.{Suspect}
 use Rattle.comparison.proofs.Advancing.{queues_none, queues_one, added_weight}
 use Rattle.comparison.proofs.Diving.{stays_same}

@@ -1,4 +1,4 @@
-use Rattle.std.proofs.Common.{◌≡◌, ℕ, ◌+◌, ◌-◌, ◌*◌, ◌^◌, ◌≤◌, sym, refl, ap, ◌∙◌, subst, ap₂, add-mul, arith}
+use Rattle.std.proofs.Common.{◌≡◌, ℕ, ◌+◌, ◌-◌, ◌*◌, ◌^◌, ◌≤◌, sym, ap, subst, ap₂, add-mul, arith}
 use Rattle.board.specs.declared.square.Square.{Square}
 use Rattle.board.proofs.Boards.{quarter_on_board}
 use Rattle.board.specs.Squares.{OnBoard}

@@ -1,6 +1,5 @@
-use Rattle.std.proofs.Common.{◌≡◌, true, false, sym, refl, ap, ◌∙◌, subst}
+use Rattle.std.proofs.Common.{◌≡◌, sym, refl, subst}
 use Rattle.std.proofs.lemmas.Bool.{false≢true}
-use Rattle.board.specs.Findings.{code_of}
 use Rattle.search.specs.WaitingLists.{room}
 use Rattle.comparison.specs.Calls.{Tried}
 use Rattle.comparison.specs.Comparisons.{world}

@@ -1,4 +1,4 @@
-use Rattle.std.proofs.Common.{◌≡◌, true, false, sym, refl, ap, ◌∙◌, subst, ap₂, arith}
+use Rattle.std.proofs.Common.{◌≡◌, ◌∙◌, ap₂}
 use Rattle.board.specs.Morton.{code}
 use Rattle.board.specs.CodeFacts.Codes.{codes_are_exact}
 use Rattle.comparison.specs.Calls.Results.{result_early}

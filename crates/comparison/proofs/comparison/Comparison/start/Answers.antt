@@ -1,4 +1,4 @@
-use Rattle.std.proofs.Common.{◌≡◌, sym, refl, ap, ◌∙◌, subst}
+use Rattle.std.proofs.Common.{refl}
 use Rattle.comparison.specs.declared.suspect.Suspect.{Suspect}
 use Rattle.comparison.proofs.Advancing.{started}
 use Rattle.comparison.proofs.comparison.Comparison.start.Goals as goal

@@ -1,4 +1,3 @@
-use Rattle.std.proofs.Common.{◌≡◌, true, false, sym, refl, ap, ◌∙◌, subst}
 use Rattle.comparison.specs.Calls.Steps.{step_early}
 use Rattle.comparison.proofs.Calling.{did_nothing, did_step, did_no_step}
 use Rattle.comparison.proofs.comparison.Comparison.step.Goals as goal

@@ -1,4 +1,4 @@
-use Rattle.std.proofs.Common.{◌≡◌, refl, arith}
+use Rattle.std.proofs.Common.{arith}
 use Rattle.search.proofs.Below.{never_behind}
 use Rattle.comparison.proofs.Diving.{walked_stays, walked_tried}
 use Rattle.comparison.proofs.trial.Trial.try_square.Goals as goal

@@ -1,10 +1,9 @@
-use Rattle.std.proofs.Common.{◌≡◌, Bool, true, false, not, sym, refl, ap, ◌∙◌, subst, ap₂, arith}
-use Rattle.std.proofs.lemmas.Bool.{false≢true, both_ways}
+use Rattle.std.proofs.Common.{◌≡◌, true, sym, refl, ap, ◌∙◌, subst, ap₂, arith}
+use Rattle.std.proofs.lemmas.Bool.{false≢true}
 use Rattle.board.specs.Morton.{code}
 use Rattle.board.specs.Squares.{Inside}
 use Rattle.board.specs.CodeFacts.Codes.{codes_are_exact}
 use Rattle.store.specs.Stores.{counts, Holds}
-use Rattle.store.specs.declared.store.Answer.TheVariants.{Empty}
 use Rattle.comparison.proofs.Diving.{meets_square, meets_empty, meets_other, meets_cell}
 use Rattle.comparison.proofs.trial.TrialVisitor.meet.Goals as goal
 
