@@ -1,7 +1,7 @@
 # make run               builds filmdist and runs it on the sample films
 # make run A=.. B=..     the same on films of your own: A the scanned film, B the drawing
 # make guide             runs filmguide on the sample films and a script; takes A, B and SCRIPT
-# make test              the gate: proves every crate from nothing, tries the must-fail edits, runs every program and test
+# make test              the gate: proves every crate, tries the must-fail edits, runs every program
 
 SHELL := /bin/bash
 .SHELLFLAGS := -eu -o pipefail -c
@@ -29,5 +29,5 @@ guide:
 	@sh examples/run.sh "$(or $(A),examples/scratched.cells)" "$(or $(B),examples/drawing.cells)" filmguide < "$(SCRIPT)"
 
 test:
-	@echo "make test: the whole gate, from nothing, which takes the better part of an hour; each step prints a line with its time" >&2
+	@echo "make test: the whole gate; from nothing it takes some twenty minutes on four processors, longer on two" >&2
 	@bash .ci/run
