@@ -1,7 +1,8 @@
 -- Squares on the board, their quarters and their first cells.
-use Rattle.std.proofs.Common.{◌≡◌, ℕ, zero, suc, ◌+◌, ◌-◌, ◌*◌, ◌/◌, ◌%◌, ◌^◌, ◌<◌, ◌≤◌, min, sym, refl, ap, ◌∙◌, subst, ⊎_elim, le_trans, mod-eq_of_lt, mul-lt-mul_of_pos_right, pow-suc, div-mul-le_self, mul-div_cancel, arith, pow-add}
+use Rattle.std.proofs.Common.{◌≡◌, ℕ, zero, suc, ◌+◌, ◌-◌, ◌*◌, ◌/◌, ◌%◌, ◌^◌, ◌<◌, ◌≤◌, min, sym, refl, ap, ◌∙◌, subst, ⊎_elim, mod-eq_of_lt, mul-lt-mul_of_pos_right, pow-suc, div-mul-le_self, mul-div_cancel, arith, pow-add}
 use native.Mathlib.Nat.{pow-le-pow_right, div-eq_of_lt}
 use Rattle.std.proofs.lemmas.Bool.{cases_lt}
+use Rattle.board.specs.SquareOrderFacts.{four_positive}
 use Rattle.board.specs.Squares.{OnBoard, Inside}
 
 -- the quarters of a square on the board are on it
@@ -16,9 +17,6 @@ number_fits m n b =
     let h : 16 - m ≤ 16 = omega arith in
     let g : 4 ^ (16 - m) ≤ 4 ^ 16 = pow-le-pow_right (omega arith) h in
     omega arith
-
-pub four_positive : (m : ℕ) → 0 < 4 ^ m
-four_positive m = le_trans (omega arith) (pow-le-pow_right {n = 4} (omega arith) {i = 0} {j = m} (omega arith))
 
 -- the first cell of a square on the board is on it
 pub code_fits : (m n : ℕ) → OnBoard m n → n * 4 ^ m < 2 ^ 32

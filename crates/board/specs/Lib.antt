@@ -4,9 +4,12 @@ pub mod CellOrder
 pub mod OrderFacts
 pub mod CodeFacts
 pub mod Squares
+pub mod SquareOrder
+pub mod SquareOrderFacts
 pub mod Spans
 pub mod Measures
 pub mod Distances
 pub mod Lists
 pub mod Strays
 pub mod Findings
+pub mod Texts

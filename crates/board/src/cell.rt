@@ -3,9 +3,11 @@ ghost use Rattle.std.specs.Prelude.{◌≡◌, Some, refl};
 ghost use Rattle.board.specs.CellOrder.{by_code, CellOrderIsCodeOrder};
 ghost use Rattle.board.specs.Morton.{evens, spaced, x_of, y_of, code as coded, Interleaved, CodesAreExact};
 ghost use Rattle.board.specs.CodeFacts.Ordered.{total as cells_total, ties as cells_tie};
+ghost use Rattle.board.specs.Texts.{pair_text};
 ghost use Rattle.std.specs.Cmp.{partial_order_from_agreeing_total};
 
 use std::cmp::Ordering;
+use std::fmt;
 
 // A cell: x grows east, y grows north.
 #[derive(Clone, Copy, PartialEq, Eq, Debug)]
@@ -14,6 +16,7 @@ pub struct Cell {
     pub y: u16,
 }
 
+// Named, and not `From`: a u32 is also the number of a square of any level.
 impl Cell {
     // The code has the bits of x and y by turns, the lowest of x first.
     pub fn code(self) -> u32
@@ -36,7 +39,16 @@ impl Cell {
     }
 }
 
-// Cells are ordered as their codes are.
+// The column, and then the row.
+impl fmt::Display for Cell {
+    ghost output = { λ c. Some (pair_text c.x c.y) };
+
+    fn fmt<W: fmt::Write>(&self, f: &mut fmt::Formatter<W>) -> fmt::Result {
+        write!(f, "{} {}", self.x, self.y)
+    }
+}
+
+// Cells are ordered as their codes are, which a derive cannot say: it would go by columns.
 impl PartialOrd for Cell {
     ghost partial_cmp = { λ x y. Some (by_code x y) };
 
@@ -86,9 +98,7 @@ fn gather(x: u32) -> u16
 }
 
 // A cell has one code and a code one cell, and the order of cells is total and is that of their codes.
-pub fn codes_are_exact() -> u8
+pub fn codes_are_exact()
     ensures codes { CodesAreExact }
     ensures order { CellOrderIsCodeOrder }
-{
-    0
-}
+{}

@@ -37,10 +37,8 @@ pub fn check_list(codes: &[u32]) -> Result<(), ListFault>
     if codes.len() > LONGEST {
         return Err(ListFault::TooLong);
     }
-    for i in 1..codes.len() {
-        if codes[i] <= codes[i - 1] {
-            return Err(ListFault::NotRising(i));
-        }
+    match codes.windows(2).position(|pair| pair[1] <= pair[0]) {
+        Some(before) => Err(ListFault::NotRising(before + 1)),
+        None => Ok(()),
     }
-    Ok(())
 }

@@ -55,6 +55,6 @@ impl Measure for Greater {
     ghost laws = { λ _. greater_laws };
 
     fn amount(&self, dx: u16, dy: u16) -> Amount {
-        if dx < dy { dy as u64 } else { dx as u64 }
+        dx.max(dy) as u64
     }
 }

@@ -1,5 +1,5 @@
 // Spans of columns or rows, and the offsets between two of them.
-ghost use Rattle.std.specs.Prelude.{◌≡◌, ◌≤◌};
+ghost use Rattle.std.specs.Prelude.{◌≡◌, ◌<◌, ◌≤◌, MatchOption};
 ghost use Rattle.board.specs.Spans.{first as first_of, last as last_of, least as least_of, greatest as greatest_of};
 
 use crate::square::TOP;
@@ -16,6 +16,16 @@ pub struct Span {
 }
 
 impl Span {
+    // From first to last, ends included; none where they are out of order.
+    pub fn new(first: u16, last: u16) -> Option<Span>
+        ensures ends_or_none { MatchOption result (last < first) (λ s. (s.first ≡ first) × (s.last ≡ last)) }
+    {
+        if first > last {
+            return None;
+        }
+        Some(Span { first, last })
+    }
+
     // The span of a square of this level at this place of the axis. An end past the edge counts as the edge.
     pub fn of(level: u8, place: u16) -> Span
         ensures begins { result.first ≡ first_of level place }

@@ -1,12 +1,16 @@
 // Squares of cells, and their quarters.
-ghost use Rattle.std.specs.Prelude.{◌≡◌, ℕ, ◌+◌, ◌*◌, ◌^◌, ◌≤◌, IfSome, Decides, MatchOption};
+ghost use Rattle.std.specs.Prelude.{◌≡◌, ℕ, ◌+◌, ◌*◌, ◌^◌, ◌≤◌, Some, refl, IfSome, Decides, MatchOption};
 ghost use Rattle.board.specs.Limits.{parts};
 ghost use Rattle.board.specs.Morton.{x_of, y_of, code as coded};
 ghost use Rattle.board.specs.Spans.{first as first_of, last as last_of, Lies, SquaresAreBlocks};
+ghost use Rattle.board.specs.SquareOrder.{SquaresAreOrdered, by_place, first_code, squares_total};
+ghost use Rattle.board.specs.SquareOrderFacts.{square_ties};
 ghost use Rattle.board.specs.Squares.{OnBoard, Inside, HasQuarter};
+ghost use Rattle.std.specs.Cmp.{partial_order_from_agreeing_total};
 
 use crate::cell::Cell;
 use crate::span::Span;
+use std::cmp::Ordering;
 
 // The level of the whole board; a cell is a square of level 0.
 pub const TOP: u8 = 16;
@@ -14,14 +18,20 @@ pub const TOP: u8 = 16;
 // How many quarters a square has, in order: southwest, southeast, northwest, northeast.
 pub const PARTS: u32 = 4;
 
-// The cells whose code divided by 4 ^ level, fraction dropped, is the number.
-#[derive(Clone, Copy, PartialEq, Eq, Debug)]
+// The cells whose code divided by 4 ^ level, fraction dropped, is the number. By default it is the first cell.
+#[derive(Clone, Copy, Default, PartialEq, Eq, Debug)]
 pub struct Square {
     pub level: u8,
     pub number: u32,
 }
 
 impl Square {
+    // The whole board.
+    pub const BOARD: Square = Square {
+        level: TOP,
+        number: 0,
+    };
+
     pub fn on_board(self) -> bool
         ensures decides { Decides result (OnBoard self.level self.number) }
     {
@@ -52,6 +62,13 @@ impl Square {
         Some(((self.number as u64) << (2 * self.level)) as u32)
     }
 
+    // The same of any square: a level above the board's counts as the board's.
+    pub fn start(self) -> u64
+        ensures value { result ≡ first_code self }
+    {
+        (self.number as u64) << (2 * self.level.min(TOP))
+    }
+
     // Whether the cell is one of the square's.
     pub fn holds(self, cell: Cell) -> bool
         ensures by_code { Decides result (Inside self.level self.number (coded cell.x cell.y)) }
@@ -61,6 +78,7 @@ impl Square {
         (cell.code() as u64) >> (2 * level) == self.number as u64
     }
 
+    // An axis each, and a line: one function would take the axis, and take it apart again.
     // From west to east. An end past the edge of the board counts as the edge.
     pub fn columns(self) -> Span
         ensures west { result.first ≡ first_of self.level (x_of self.number) }
@@ -78,9 +96,38 @@ impl Square {
     }
 }
 
-// A square is a block of cells: those of its columns and rows, and no other.
-pub fn squares_are_blocks() -> u8
-    ensures blocks { SquaresAreBlocks }
-{
-    0
+// Squares are ordered by the code of their first cell, the larger first: a square before its quarters. A derive would go by levels.
+impl PartialOrd for Square {
+    ghost partial_cmp = { λ x y. Some (by_place x y) };
+
+    ghost laws = { partial_order_from_agreeing_total by_place squares_total (λ _ _. refl) square_ties };
+
+    fn partial_cmp(&self, other: &Square) -> Option<Ordering> {
+        Some(self.cmp(other))
+    }
 }
+
+impl Ord for Square {
+    ghost cmp = { by_place };
+
+    ghost total = { squares_total };
+
+    ghost matches_partial_cmp = { λ _ _. refl };
+
+    ghost matches_eq = { square_ties };
+
+    fn cmp(&self, other: &Square) -> Ordering {
+        let by_level = other.level.cmp(&self.level);
+        self.start().cmp(&other.start()).then(by_level)
+    }
+}
+
+// The order of squares is total, and goes by first code and level.
+pub fn squares_are_ordered()
+    ensures order { SquaresAreOrdered }
+{}
+
+// A square is a block of cells: those of its columns and rows, and no other.
+pub fn squares_are_blocks()
+    ensures blocks { SquaresAreBlocks }
+{}

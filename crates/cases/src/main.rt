@@ -23,6 +23,7 @@ fn codes(rt: &HostRuntime) -> anyhow::Result<()> {
     Ok(())
 }
 
+// Cells in brackets, as the cases are written down.
 fn shown(rt: &HostRuntime, name: &str, found: Finding) -> anyhow::Result<()> {
     let d = found.distance;
     let film = found.film;
@@ -44,29 +45,23 @@ fn directed<M: Measure>(
     match scan(a, b, m) {
         Ok(found) => shown(rt, name, found),
         Err(fault) => {
-            let number = fault.number();
-            let place = fault.place();
-            println!(rt; "{name} refused {number} {place}")?;
+            println!(rt; "{name} refused {}", fault.numbered())?;
             Ok(())
         }
     }
 }
 
 fn both_ways(rt: &HostRuntime) -> anyhow::Result<()> {
-    if let Ok(found) = two_way(&FILM, &DRAWING, &Squared) {
-        let sum = found.sum;
-        println!(rt; "two-way {sum}")?;
-        shown(rt, "there", found.there)?;
-        shown(rt, "back", found.back)?;
-    }
-    Ok(())
+    let found = two_way(&FILM, &DRAWING, &Squared).map_err(|fault| fault.numbered())?;
+    let sum = found.sum;
+    println!(rt; "two-way {sum}")?;
+    shown(rt, "there", found.there)?;
+    shown(rt, "back", found.back)
 }
 
 fn lists(rt: &HostRuntime) -> anyhow::Result<()> {
     if let Err(fault) = check_list(&[5, 5]) {
-        let number = fault.number();
-        let place = fault.place();
-        println!(rt; "codes 5 5 refused {number} {place}")?;
+        println!(rt; "codes 5 5 refused {}", fault.numbered())?;
     }
     directed(
         rt,

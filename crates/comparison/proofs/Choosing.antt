@@ -4,7 +4,7 @@ use Rattle.std.specs.Ordering.{is_lt, ordering_reverse}
 use Rattle.std.specs.List.Sorted.{IsPermutation}
 use Rattle.std.specs.List.{AllByRecursion}
 use Rattle.std.proofs.ByRecursion.{all_shuffled}
-use Rattle.std.proofs.lemmas.List.Sorted.{IsPermutation-refl, IsPermutation-sym, IsPermutation-trans, IsPermutation-cons, IsPermutation-swap, length_permutation, sum_by-IsPermutation}
+use Rattle.std.proofs.lemmas.List.Sorted.{IsPermutation-refl, IsPermutation-sym, IsPermutation-trans, IsPermutation-append_right, IsPermutation-cons, IsPermutation-swap, length_permutation, sum_by-IsPermutation}
 use Rattle.std.proofs.lemmas.List.Sums.{sum_by-cons}
 use Rattle.std.proofs.lemmas.Bool.{false≢true, both_ways}
 use Rattle.comparison.specs.declared.suspect.Suspect.{Suspect}
@@ -25,7 +25,8 @@ use Rattle.comparison.specs.Calls.Looks.{looks, look_early}
 use Rattle.comparison.specs.Calls.Results.{results, result_early, result_waits}
 use Rattle.comparison.specs.Calls.Run.{stop, next}
 use Rattle.comparison.specs.Law.{Same, RunsAreOne}
-use Rattle.comparison.specs.Suspects.{before, suspects, first_code}
+use Rattle.board.specs.SquareOrder.{first_code}
+use Rattle.comparison.specs.Suspects.{before, suspects}
 use Rattle.comparison.specs.World.{World, Facts, KeyedAt}
 use Rattle.comparison.proofs.Handling.{settled_from}
 use Rattle.comparison.proofs.Keeping.{greatest-below, keys_below}
@@ -124,10 +125,6 @@ first_one x y xs ys s f g =
 
 -- ---- one call
 
-pub behind : {X : Type 0} (ys : List X) {us vs : List X} → IsPermutation us vs → IsPermutation (ys ++ us) (ys ++ vs)
-behind [] s = s
-behind (y ∷ ys) {us} {vs} s = IsPermutation-cons y (ys ++ us) (ys ++ vs) (behind ys s)
-
 greatest_shuffled : (xs ys : List Suspect) → IsPermutation xs ys → greatest_key xs ≡ greatest_key ys
 greatest_shuffled xs ys s =
     let a = greatest-below ys (greatest_key xs) (all_shuffled (λ s. s.key ≤ greatest_key xs) xs ys s (keys_below xs (greatest_key xs) (omega arith))) in
@@ -216,7 +213,7 @@ module _ (w : World) (fs : Facts w) where
         taken = p.taken ∙ ap (λ x. counted x 1) m.taken ∙ sym q.taken;
         waiting = IsPermutation-trans st'.waiting (p.queued_now ++ p.rest) su'.waiting p.waiting
             (IsPermutation-trans (p.queued_now ++ p.rest) (q.queued_now ++ q.rest) su'.waiting
-            (subst (λ x. IsPermutation (p.queued_now ++ p.rest) (x ++ q.rest)) o.0 (behind p.queued_now rest))
+            (subst (λ x. IsPermutation (p.queued_now ++ p.rest) (x ++ q.rest)) o.0 (IsPermutation-append_right p.queued_now p.rest q.rest rest))
             (IsPermutation-sym su'.waiting (q.queued_now ++ q.rest) q.waiting));
       }
 

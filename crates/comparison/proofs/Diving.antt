@@ -1,6 +1,6 @@
 -- A walk on which the cells of a square are tried.
-use Rattle.std.proofs.Common.{◌≡◌, ℕ, ◌-◌, ◌≤◌, Bool, true, false, not, Decides, sym, refl, ◌∙◌, subst, inl, inr, div-one, arith}
-use Rattle.std.proofs.lemmas.Bool.{false≢true, both_ways}
+use Rattle.std.proofs.Common.{◌≡◌, ℕ, ◌-◌, ◌≤◌, Bool, false, sym, refl, ◌∙◌, subst, inl, inr, div-one, arith}
+use Rattle.std.proofs.lemmas.Bool.{both_ways}
 use Rattle.board.specs.Squares.{Inside}
 use Rattle.board.specs.declared.square.Square.{Square}
 use Rattle.search.specs.Descents.{Under}
@@ -42,13 +42,9 @@ module _ {A B M : Type 0} (film : A → ℕ → ℕ → Answer) (drawing : B →
   abbrev Meets : Trial A B M → Square → Bool → Trial A B M → Type 0
   Meets v s r w = Met (floor film drawing amount) (since film drawing amount) (done film drawing amount) (comes film drawing amount) v s r w
 
-  -- a square larger than a cell: the walk goes on unless it is empty
-  pub meets_square : (v : Trial A B M) (s : Square) (b : Bool) → StoreFacts (film v.film) → s.level ≤ 16 → Decides b (film v.film s.level s.number ≡ Empty) → Meets v s (not b) v
-  meets_square v s b f h d = record { later = later_same v; done_below = λ e q u i o k p r im. empty_holds_none (film v.film) f s.level s.number q h (d.0 (back b e)) (under_cells s.level s.number q u) o }
-    where
-      back : (b : Bool) → not b ≡ false → b ≡ true
-      back true e = refl
-      back false e = absurd (false≢true (sym e))
+  -- a square larger than a cell: where the walk does not go on, it is empty
+  pub meets_square : (v : Trial A B M) (s : Square) (on : Bool) → StoreFacts (film v.film) → s.level ≤ 16 → (on ≡ false → film v.film s.level s.number ≡ Empty) → Meets v s on v
+  meets_square v s on f h d = record { later = later_same v; done_below = λ e q u i o k p r im. empty_holds_none (film v.film) f s.level s.number q h (d e) (under_cells s.level s.number q u) o }
 
   -- a cell that is not held
   pub meets_empty : (v : Trial A B M) (s : Square) → s.level ≤ 0 → counts (film v.film s.level s.number) ≡ false → Meets v s false v

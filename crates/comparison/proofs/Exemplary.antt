@@ -8,7 +8,7 @@ use Rattle.board.specs.Measures.{squared, squared_laws}
 use Rattle.board.specs.Morton.{digits}
 use Rattle.board.specs.Spans.{first, last, greatest, gap}
 use Rattle.board.specs.Squares.{OnBoard, Inside}
-use Rattle.board.proofs.Boards.{four_positive}
+use Rattle.board.specs.SquareOrderFacts.{four_positive}
 use Rattle.board.proofs.Bounded.{bounds}
 use Rattle.store.specs.Exact.{exact, occupied}
 use Rattle.store.specs.ExactFacts.{exact_facts, exactly_list, else_empty, empty_no_count}

@@ -8,7 +8,7 @@ use Rattle.store.specs.declared.store.Answer.TheVariants.{Empty, Occupied, Unkno
 use Rattle.board.specs.Squares.{Inside}
 use Rattle.comparison.specs.declared.record.Figures.{Figures}
 use Rattle.comparison.specs.declared.suspect.Suspect.{Suspect}
-use Rattle.comparison.specs.Suspects.{first_code}
+use Rattle.board.specs.SquareOrder.{first_code}
 use Rattle.comparison.specs.World.{World, Facts, InFilm, NearestTo, KeyedAt, dist, squares_in, unless_empty, sum_to}
 use Rattle.comparison.specs.Calls.{Improves, Right, Tried, Picked, Handled, part}
 use Rattle.comparison.specs.Calls.Picked.{none, pick, pass_empty, pass}
@@ -73,6 +73,13 @@ module _ (w : World) where
       go : (a : Answer) (m : ℕ → ℕ) → ((k : ℕ) → 3 * m k + 1 ≤ 4 ^ suc l) → 3 * (unless_empty a + sum_to m 4) + 1 ≤ 4 ^ suc l * 4
       go a m h = let e = counts_most a in omega (arith, h 0, h 1, h 2, h 3)
 
+  -- of k quarters no more than k are queued
+  pub picked_length : (f : Figures) (l n : ℕ) {k : ℕ} {es : List Suspect} → Picked w f l n k es → length es ≤ k
+  picked_length f l n none = omega arith
+  picked_length f l n (pick e p x a r i) = let h = picked_length f l n p in omega arith
+  picked_length f l n (pass_empty p x) = let h = picked_length f l n p in omega arith
+  picked_length f l n (pass key q p x i) = let h = picked_length f l n p in omega arith
+
 module _ (w : World) (fs : Facts w) where
   -- an entry of the waiting list
   abbrev pub Entry : Suspect → Type 0
@@ -109,12 +116,6 @@ module _ (w : World) (fs : Facts w) where
         (quarter_key w fs l n k m q e.key e.partner h r (subst (λ s. KeyedAt w s.level s.number e.key e.partner) a t), picked_keys m q r p (omega arith))
     picked_keys m q r (pass_empty p x) h = picked_keys m q r p (omega arith)
     picked_keys m q r (pass key t p x i) h = picked_keys m q r p (omega arith)
-
-    pub picked_length : {k : ℕ} {es : List Suspect} → Picked w f l n k es → length es ≤ k
-    picked_length none = omega arith
-    picked_length (pick e p x a r i) = let h = picked_length p in omega arith
-    picked_length (pass_empty p x) = let h = picked_length p in omega arith
-    picked_length (pass key q p x i) = let h = picked_length p in omega arith
 
     pub picked_size : {k : ℕ} {es : List Suspect} → Picked w f l n k es → sum_by (size w) es ≤ sum_to (λ k. squares_in w l (4 * n + k)) k
     picked_size none = omega arith
@@ -226,7 +227,7 @@ module _ (w : World) (fs : Facts w) where
     pub in_room : {es : List Suspect} {g : Figures} → Handled w s free f es g → Entry s → length es ≤ free
     in_room (dropped n) en = omega arith
     in_room (settled z i) en = omega arith
-    in_room (opened l z i room p) en = let h = picked_length f l s.square.number (omega (arith, en.2)) p in omega arith
+    in_room (opened l z i room p) en = let h = picked_length w f l s.square.number p in omega arith
     in_room (sunk z i room t) en = omega arith
 
     pub shown : {es : List Suspect} {g : Figures} → Handled w s free f es g → Entry s → Shown f → Shown g

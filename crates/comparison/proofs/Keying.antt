@@ -1,7 +1,11 @@
 -- Keys and the cells of a square, over a world whose stores and measure owe their facts.
-use Rattle.std.proofs.Common.{◌≡◌, ℕ, suc, ◌+◌, ◌*◌, ◌/◌, ◌%◌, ◌^◌, ◌<◌, ◌≤◌, min, ◌⊎◌, sym, refl, ap, ◌∙◌, inl, inr, le_trans, pow-suc, div-mul-le_self, div-one, arith}
+use Rattle.std.proofs.Common.{◌≡◌, ℕ, suc, ◌+◌, ◌*◌, ◌/◌, ◌%◌, ◌^◌, ◌<◌, ◌≤◌, min, ◌⊎◌, sym, refl, ap, ◌∙◌, ap₂, inl, inr, le_trans, pow-suc, div-mul-le_self, div-one, arith}
 use native.Mathlib.Nat.{div-div-eq-div-mul, div-eq_of_lt}
 use Rattle.std.proofs.lemmas.Bool.{cases_lt}
+use Rattle.board.specs.CodeFacts.Codes.{codes_are_exact}
+use Rattle.board.specs.Findings.{code_of}
+use Rattle.board.specs.Morton.{code, x_of, y_of}
+use Rattle.board.specs.declared.cell.Cell.{Cell}
 use Rattle.board.proofs.Bounded.{bounds}
 use Rattle.search.specs.Keys.{KeyLaws}
 use Rattle.search.proofs.Keying.{key_laws}
@@ -10,6 +14,10 @@ use Rattle.store.specs.Stores.{counts, Counts}
 use Rattle.store.specs.declared.store.Answer.{Answer}
 use Rattle.store.specs.declared.store.Answer.TheVariants.{Empty, Occupied, Unknown}
 use Rattle.comparison.specs.World.{World, Facts, InFilm, InDrawing, NearestTo, KeyedAt, dist}
+
+-- the cell of a code has that code
+pub cell_of : (c : Cell) (n : ℕ) → c.x ≡ x_of n → c.y ≡ y_of n → code_of c ≡ n
+cell_of c n x y = ap₂ code x y ∙ codes_are_exact.back n
 
 -- below k, or k itself
 pub last : {X : Type 0} (k r : ℕ) → r < suc k → (r < k → X) → (r ≡ k → X) → X

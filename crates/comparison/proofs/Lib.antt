@@ -1,4 +1,5 @@
 pub mod Keying
+pub mod Refusing
 pub mod Existing
 pub mod Handling
 pub mod Keeping

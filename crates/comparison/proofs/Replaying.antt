@@ -1,5 +1,6 @@
 -- Lists of calls, one call after the other.
-use Rattle.std.proofs.Common.{◌≡◌, ℕ, List, [], ◌∷◌, ◌++◌, map, sym, refl, ap, ◌∙◌, subst}
+use Rattle.std.proofs.Common.{◌≡◌, ℕ, List, [], ◌∷◌, ◌++◌, map, sym, refl, ◌∙◌, subst}
+use Rattle.std.proofs.lemmas.List.{map-append}
 use Rattle.board.specs.Measures.{MeasureLaws}
 use Rattle.store.specs.Stores.{StoreFacts}
 use Rattle.store.specs.declared.store.Answer.{Answer}
@@ -8,29 +9,23 @@ use Rattle.comparison.specs.declared.call.Outcome.{Outcome}
 use Rattle.comparison.specs.declared.comparison.Comparison.{Comparison}
 use Rattle.comparison.specs.Calls.{Does, Run, said}
 use Rattle.comparison.specs.Calls.Run.{stop}
-use Rattle.comparison.specs.Comparisons.{InOrder, Did, Ran, world, state}
+use Rattle.comparison.specs.Comparisons.{Did, Ran, world, state}
 use Rattle.comparison.proofs.Calling.{facts}
 use Rattle.comparison.proofs.Keeping.{extended, law}
-
-pub map_push : {X Y : Type 0} (f : X → Y) (xs : List X) (x : X) → map f (xs ++ x ∷ []) ≡ map f xs ++ f x ∷ []
-map_push f [] x = refl
-map_push f (y ∷ xs) x = ap (λ l. f y ∷ l) (map_push f xs x)
 
 module _ {A B M : Type 0} (film : A → ℕ → ℕ → Answer) (drawing : B → ℕ → ℕ → Answer) (amount : M → ℕ → ℕ → ℕ) where
   -- some calls were made
   pub record Going (c : Comparison A B M) (calls : List Call) (os : List Outcome) (c' : Comparison A B M) : Type 0 where
     pub same_world : world film drawing amount c' ≡ world film drawing amount c
-    pub in_order : InOrder c'
     pub run : Run (world film drawing amount c) (state c) calls (map said os) (state c')
 
-  pub going_none : (c : Comparison A B M) → InOrder c → Going c [] [] c
-  going_none c i = record { same_world = refl; in_order = i; run = stop }
+  pub going_none : (c : Comparison A B M) → Going c [] [] c
+  going_none c = record { same_world = refl; run = stop }
 
   pub going_more : (c d e : Comparison A B M) (calls : List Call) (os : List Outcome) (call : Call) (o : Outcome) → Going c calls os d → Did film drawing amount d call o e → Going c (calls ++ call ∷ []) (os ++ o ∷ []) e
   going_more c d e calls os call o a b = record {
     same_world = b.same_world ∙ a.same_world;
-    in_order = b.in_order;
-    run = subst (λ ss. Run (world film drawing amount c) (state c) (calls ++ call ∷ []) ss (state e)) (sym (map_push said os o))
+    run = subst (λ ss. Run (world film drawing amount c) (state c) (calls ++ call ∷ []) ss (state e)) (sym (map-append said os (o ∷ [])))
         (extended (world film drawing amount c) call (said o) a.run (subst (λ w. Does w (state d) call (said o) (state e)) a.same_world b.does));
   }
 
@@ -38,7 +33,6 @@ module _ {A B M : Type 0} (film : A → ℕ → ℕ → Answer) (drawing : B →
       → (c d : Comparison A B M) (calls : List Call) (os : List Outcome) → Going c calls os d → Ran film drawing amount c calls os d
   ran ff df mf c d calls os a = record {
     same_world = a.same_world;
-    in_order = a.in_order;
     run = a.run;
     law = λ e. law (world film drawing amount c) (facts film ff drawing df amount mf c) calls (map said os) (state d) (subst (λ s. Run (world film drawing amount c) s calls (map said os) (state d)) e a.run);
   }

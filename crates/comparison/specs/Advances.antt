@@ -9,9 +9,9 @@ use Rattle.store.specs.declared.store.Answer.TheVariants.{Empty}
 use Rattle.comparison.specs.declared.comparison.Comparison.{Comparison}
 use Rattle.comparison.specs.declared.record.Figures.{Figures}
 use Rattle.comparison.specs.declared.suspect.Suspect.{Suspect}
-use Rattle.comparison.specs.Calls.{Improves, Right, Picked, Handled, counted}
-use Rattle.comparison.specs.Comparisons.{InOrder, world}
-use Rattle.comparison.specs.Suspects.{first_code}
+use Rattle.comparison.specs.Calls.{Improves, Right, Picked, Handled}
+use Rattle.comparison.specs.Comparisons.{state, world}
+use Rattle.board.specs.SquareOrder.{first_code}
 use Rattle.comparison.specs.World.{World, KeyedAt}
 
 -- the square q was offered: it is put on the list where it is not empty and improves
@@ -21,19 +21,16 @@ pub data Offer (w : World) (f : Figures) (q : Square) : List Suspect → Type 0 
   pass : (key p : ℕ) → KeyedAt w q.level q.number key p → (Improves f key (first_code q) → ⊥) → Offer w f q []
 
 module _ {A B M : Type 0} (film : A → ℕ → ℕ → Answer) (drawing : B → ℕ → ℕ → Answer) (amount : M → ℕ → ℕ → ℕ) where
-  -- c' is c with the squares es put on the list, and counted
+  -- c' is c with the squares es put on the list
   pub record Queues (c : Comparison A B M) (es : List Suspect) (c' : Comparison A B M) : Type 0 where
     pub same_world : world film drawing amount c' ≡ world film drawing amount c
-    pub in_order : InOrder c → InOrder c'
     pub waits : IsPermutation (waiting c'.suspects) (es ++ waiting c.suspects)
-    pub begun : c'.progress.begun ≡ c.progress.begun
-    pub queued : c'.progress.queued ≡ counted c.progress.queued (length es)
+    pub progress : c'.progress ≡ c.progress
 
   pub record Offered (c : Comparison A B M) (q : Square) (c' : Comparison A B M) : Type 0 where
     pub es : List Suspect
     pub queues : Queues c es c'
     pub figures : c'.trial.figures ≡ c.trial.figures
-    pub taken : c'.progress.taken ≡ c.progress.taken
     pub offer : Offer (world film drawing amount c) c.trial.figures q es
 
   -- the first k quarters of the square n of level l + 1 were offered
@@ -41,25 +38,22 @@ module _ {A B M : Type 0} (film : A → ℕ → ℕ → Answer) (drawing : B →
     pub es : List Suspect
     pub queues : Queues c es c'
     pub figures : c'.trial.figures ≡ c.trial.figures
-    pub taken : c'.progress.taken ≡ c.progress.taken
     pub picked : Picked (world film drawing amount c) c.trial.figures l n k es
 
-  -- the suspect s, which was taken from the list, was handled and counted
+  -- the suspect s, which was taken from the list, was handled
   pub record Handles (c : Comparison A B M) (s : Suspect) (c' : Comparison A B M) : Type 0 where
     pub es : List Suspect
     pub queues : Queues c es c'
-    pub taken : c'.progress.taken ≡ counted c.progress.taken 1
     pub handled : Handled (world film drawing amount c) s (room c.suspects - length (waiting c.suspects)) c.trial.figures es c'.trial.figures
 
   -- the comparison was begun anew with the cell a as its witness
   pub record Started (c : Comparison A B M) (a : ℕ) (c' : Comparison A B M) : Type 0 where
     pub same_world : world film drawing amount c' ≡ world film drawing amount c
-    pub in_order : InOrder c → InOrder c'
     pub witness : c'.trial.figures.film ≡ a
     pub partner : KeyedAt (world film drawing amount c) 0 a c'.trial.figures.low c'.trial.figures.drawing
-    pub begun : c'.progress.begun ≡ true
-    pub queued : c'.progress.queued ≡ 1
-    pub taken : c'.progress.taken ≡ 0
+    pub begun : (state c').begun ≡ true
+    pub queued : (state c').queued ≡ 1
+    pub taken : (state c').taken ≡ 0
     pub board : Suspect
     pub waits : waiting c'.suspects ≡ board ∷ []
     pub whole : board.square ≡ record { level = top; number = 0 }

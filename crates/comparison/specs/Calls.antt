@@ -15,7 +15,8 @@ use Rattle.comparison.specs.declared.call.Outcome.TheVariants.{Begun, Stepped, P
 use Rattle.comparison.specs.declared.record.Figures.{Figures}
 use Rattle.comparison.specs.declared.suspect.Suspect.{Suspect}
 use Rattle.comparison.specs.Faults.{fault_numbered}
-use Rattle.comparison.specs.Suspects.{first_code, suspects}
+use Rattle.board.specs.SquareOrder.{first_code}
+use Rattle.comparison.specs.Suspects.{before}
 use Rattle.comparison.specs.World.{World, InFilm, InDrawing, KeyedAt}
 
 -- what a comparison has come to: whether it was begun, the figures, both counts, and what waits
@@ -106,7 +107,7 @@ module _ (w : World) where
     pub queued_now : List Suspect
     pub rest : List Suspect
     pub split : IsPermutation st.waiting (taken_one ∷ rest)
-    pub was_first : FirstIn suspects taken_one rest
+    pub was_first : FirstIn before taken_one rest
     pub handled : Handled taken_one (w.suspects - length rest) st.figures queued_now st'.figures
     pub waiting : IsPermutation st'.waiting (queued_now ++ rest)
     pub begun : st'.begun ≡ true

@@ -1,6 +1,7 @@
 pub mod World
 pub mod Suspects
 pub mod SuspectFacts
+pub mod Waits
 pub mod Faults
 pub mod Calls
 pub mod Law

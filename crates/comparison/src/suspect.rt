@@ -1,26 +1,19 @@
 // Squares of A that wait to be looked into, and their order.
-ghost use Rattle.std.specs.Prelude.{◌≡◌, Some, refl};
-ghost use Rattle.comparison.specs.Suspects.{before, first_code, suspects, SuspectsAreOrdered};
+ghost use Rattle.std.specs.Prelude.{Some, refl};
+ghost use Rattle.comparison.specs.Suspects.{before, suspects, SuspectsAreOrdered};
 ghost use Rattle.comparison.specs.SuspectFacts.{ties};
 ghost use Rattle.std.specs.Cmp.{partial_order_from_agreeing_total};
 
 use board::measure::Amount;
-use board::square::{Square, TOP};
+use board::square::Square;
 use std::cmp::Ordering;
 
 // A square of A with its key and partner.
-#[derive(Clone, Copy, PartialEq, Eq, Debug)]
+#[derive(Clone, Copy, Default, PartialEq, Eq, Debug)]
 pub struct Suspect {
     pub key: Amount,
     pub square: Square,
     pub partner: u32,
-}
-
-// The code of the square's first cell.
-pub fn first_code(s: Square) -> u64
-    ensures value { result ≡ first_code s }
-{
-    (s.number as u64) << (2 * s.level.min(TOP))
 }
 
 impl PartialOrd for Suspect {
@@ -33,7 +26,7 @@ impl PartialOrd for Suspect {
     }
 }
 
-// The greater key comes first, then the smaller first code, then the higher level, then the smaller partner.
+// The greater key comes first, which a derive cannot say, then the square that comes first, then the smaller partner.
 impl Ord for Suspect {
     ghost cmp = { before };
 
@@ -45,16 +38,13 @@ impl Ord for Suspect {
 
     fn cmp(&self, other: &Suspect) -> Ordering {
         let by_key = other.key.cmp(&self.key);
-        let by_code = first_code(self.square).cmp(&first_code(other.square));
-        let by_level = other.square.level.cmp(&self.square.level);
-        let by_partner = self.partner.cmp(&other.partner);
-        by_key.then(by_code).then(by_level).then(by_partner)
+        by_key
+            .then(self.square.cmp(&other.square))
+            .then(self.partner.cmp(&other.partner))
     }
 }
 
 // The order of suspects is total, and goes by key, first code, level and partner.
-pub fn suspects_are_ordered() -> u8
+pub fn suspects_are_ordered()
     ensures order { SuspectsAreOrdered }
-{
-    0
-}
+{}

@@ -3,5 +3,6 @@
 
 pub mod answer;
 pub mod films;
+pub mod kind;
 pub mod script;
 pub mod session;

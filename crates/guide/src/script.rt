@@ -1,6 +1,8 @@
 // The lines of a script.
+use arrayvec::ArrayVec;
 use board::cell::Cell;
 use comparison::call::Call;
+use thiserror::Error;
 
 #[derive(Clone, Copy, PartialEq, Eq, Debug)]
 pub enum Command {
@@ -11,59 +13,47 @@ pub enum Command {
     Run,
 }
 
-// What a line of a script says.
-#[derive(Clone, Copy, PartialEq, Eq, Debug)]
-pub enum Line {
-    Command(Command),
-    // an empty line, or a remark
-    Passed,
-    // none of the lines of a script
-    Unknown,
-}
+// A line that is none of the lines of a script.
+#[derive(Clone, Copy, PartialEq, Eq, Debug, Error)]
+#[error("a line is none of the lines of a script")]
+pub struct UnknownLine;
 
-// The cell in two words.
-fn cell(x: &str, y: &str) -> Option<Cell> {
-    match (x.parse::<u16>(), y.parse::<u16>()) {
-        (Ok(x), Ok(y)) => Some(Cell { x, y }),
-        _ => None,
-    }
-}
+// One word more than the longest line of a script has, so that a longer line is noticed.
+const WORDS: usize = 4;
 
-fn command_of(name: &str, first: Option<&str>, second: Option<&str>) -> Option<Command> {
-    match (name, first, second) {
-        ("begin", None, None) => Some(Command::Call(Call::Begin)),
-        ("step", None, None) => Some(Command::Call(Call::Step)),
-        ("step", Some(count), None) => match count.parse::<u32>() {
-            Ok(count) => Some(Command::Steps(count)),
-            Err(_) => None,
-        },
-        ("run", None, None) => Some(Command::Run),
-        ("probe", Some(x), Some(y)) => match cell(x, y) {
-            Some(cell) => Some(Command::Call(Call::Probe(cell))),
-            None => None,
-        },
-        ("look", None, None) => Some(Command::Call(Call::Look)),
-        ("result", None, None) => Some(Command::Call(Call::Result)),
-        _ => None,
-    }
-}
-
-// Reads a line of a script.
-pub fn read_line(line: &str) -> Line {
-    let mut words = line.split_whitespace();
-    let Some(name) = words.next() else {
-        return Line::Passed;
+// A probe of the cell in two words.
+fn probe(x: &str, y: &str) -> Option<Command> {
+    let cell = Cell {
+        x: x.parse().ok()?,
+        y: y.parse().ok()?,
     };
-    if name.starts_with("#") {
-        return Line::Passed;
+    Some(Command::Call(Call::Probe(cell)))
+}
+
+fn command_of(words: &[&str]) -> Option<Command> {
+    match words {
+        ["begin"] => Some(Command::Call(Call::Begin)),
+        ["step"] => Some(Command::Call(Call::Step)),
+        ["step", count] => count.parse().ok().map(Command::Steps),
+        ["run"] => Some(Command::Run),
+        ["probe", x, y] => probe(x, y),
+        ["look"] => Some(Command::Call(Call::Look)),
+        ["result"] => Some(Command::Call(Call::Result)),
+        _ => None,
     }
-    let first = words.next();
-    let second = words.next();
-    if words.next().is_some() {
-        return Line::Unknown;
+}
+
+// The command of a line; none of an empty line, and none of a remark.
+pub fn read_line(line: &str) -> Result<Option<Command>, UnknownLine> {
+    let mut words = ArrayVec::<&str, WORDS>::new();
+    for word in line.split_whitespace() {
+        if words.try_push(word).is_err() {
+            break;
+        }
     }
-    match command_of(name, first, second) {
-        Some(command) => Line::Command(command),
-        None => Line::Unknown,
+    match words.as_slice() {
+        [] => Ok(None),
+        [name, ..] if name.starts_with("#") => Ok(None),
+        words => command_of(words).map(Some).ok_or(UnknownLine),
     }
 }

@@ -1,21 +1,20 @@
--- One record more is read.
-use Rattle.std.proofs.Common.{◌≡◌, ℕ, ◌-◌, ◌≤◌, List, [], ◌∷◌, ◌++◌, length, get_or, take, drop, refl, append_assoc, arith}
-use Rattle.std.proofs.lemmas.List.{take_rest}
-use Rattle.board.specs.Morton.{code}
-use Rattle.job.specs.Records.{records, low_first}
+-- The records of a film are its groups of four bytes.
+use Rattle.std.proofs.Common.{◌≡◌, ℕ, suc, zero, ◌+◌, ◌*◌, ◌/◌, ◌<◌, ◌≤◌, List, [], ◌∷◌, length, map, refl, ap, arith}
+use Rattle.std.specs.Simd.{first_chunks}
+use Rattle.job.specs.Records.{records, code_of_record}
 
--- the first record, and those behind it
-first_record : (bs : List ℕ) → 4 ≤ length bs
-    → records bs ≡ code (low_first (get_or bs 0 0) (get_or bs 1 0)) (low_first (get_or bs 2 0) (get_or bs 3 0)) ∷ records (drop 4 bs)
-first_record [] h = absurd (omega arith)
-first_record (a ∷ []) h = absurd (omega arith)
-first_record (a ∷ b ∷ []) h = absurd (omega arith)
-first_record (a ∷ b ∷ c ∷ []) h = absurd (omega arith)
-first_record (a ∷ b ∷ c ∷ d ∷ bs) h = refl
+grouped : (k : ℕ) (bs : List ℕ) → 4 * k ≤ length bs → length bs < 4 * k + 4 → map code_of_record (first_chunks 4 k bs) ≡ records bs
+grouped zero [] h l = refl
+grouped zero (a ∷ []) h l = refl
+grouped zero (a ∷ b ∷ []) h l = refl
+grouped zero (a ∷ b ∷ c ∷ []) h l = refl
+grouped zero (a ∷ b ∷ c ∷ d ∷ bs) h l = absurd (omega arith)
+grouped (suc k) [] h l = absurd (omega arith)
+grouped (suc k) (a ∷ []) h l = absurd (omega arith)
+grouped (suc k) (a ∷ b ∷ []) h l = absurd (omega arith)
+grouped (suc k) (a ∷ b ∷ c ∷ []) h l = absurd (omega arith)
+grouped (suc k) (a ∷ b ∷ c ∷ d ∷ bs) h l =
+    ap (λ cs. code_of_record (a ∷ b ∷ c ∷ d ∷ []) ∷ cs) (grouped k bs (omega arith) (omega arith))
 
-pub one_more : (cs bs all items : List ℕ) (x : ℕ) → 4 ≤ length bs → cs ++ records bs ≡ all → items ≡ cs ++ x ∷ []
-    → x ≡ code (low_first (get_or bs 0 0) (get_or bs 1 0)) (low_first (get_or bs 2 0) (get_or bs 3 0))
-    → items ++ records (take (length bs - 4) (drop 4 bs)) ≡ all
-one_more cs bs all items x h before pushed e =
-    let r = first_record bs h in
-    rw (pushed, take_rest bs 4, append_assoc cs (x ∷ []) (records (drop 4 bs)), e, ← r) before
+pub records_are_groups : (bs : List ℕ) → map code_of_record (first_chunks 4 (length bs / 4) bs) ≡ records bs
+records_are_groups bs = grouped (length bs / 4) bs (omega arith) (omega arith)

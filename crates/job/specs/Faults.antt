@@ -6,6 +6,8 @@ use Rattle.scan.specs.Faults.{scan_numbered}
 use Rattle.scan.specs.declared.fault.ScanFault.{ScanFault}
 use Rattle.scan.specs.declared.fault.ScanFault.TheVariants.{List as OfList, NoCell}
 use Rattle.job.specs.Records.{records_numbered}
+use Rattle.job.specs.declared.failure.Failure.{Failure}
+use Rattle.job.specs.declared.failure.Failure.TheVariants.{Refused, NoMemory}
 use Rattle.job.specs.declared.fault.PartFault.{PartFault}
 use Rattle.job.specs.declared.fault.PartFault.TheVariants.{Records, List as InList, Comparison}
 use Rattle.job.specs.declared.fault.JobFault.{JobFault}
@@ -34,3 +36,8 @@ job_numbered f = part_numbered f.fault
 abbrev pub side_of : ScanFault → Option Side
 side_of (OfList s f) = None
 side_of (NoCell s) = Some s
+
+-- the failure of a part, with the side that its fault is about
+abbrev pub placed : Side → Failure PartFault → Failure JobFault
+placed side (Refused f) = Refused (record { side = Some side; fault = f })
+placed side NoMemory = NoMemory

@@ -10,7 +10,6 @@ use Rattle.job.specs.Faults.{Part, part_of, part_numbered}
 use Rattle.job.specs.Faults.Part.{records_part, list_part, comparison_part}
 use Rattle.job.specs.declared.failure.Failure.{Failure}
 use Rattle.job.specs.declared.failure.Failure.TheVariants.{Refused, NoMemory}
-use Rattle.job.specs.declared.fault.PartFault.{PartFault}
 use Rattle.job.specs.declared.fault.JobFault.{JobFault}
 
 -- a film that can be read: whole records, not too many, in cell order
@@ -23,17 +22,6 @@ abbrev pub FilmRefused : List ℕ → Part → ℕ × ℕ → Type 0
 FilmRefused bs records_part f = RecordsRefused bs f
 FilmRefused bs list_part f = Sized bs × ListRefused (records bs) f
 FilmRefused bs comparison_part f = ⊥
-
--- what is so where a call fails: of want of memory nothing is said
-abbrev pub Stopped : {F : Type 0} → Failure F → (F → Type 0) → Type 0
-Stopped (Refused f) P = P f
-Stopped NoMemory P = Unit {0}
-
--- s is r, with the side of its fault
-abbrev pub Placed : {X : Type 0} → Side → Result X (Failure PartFault) → Result X (Failure JobFault) → Type 0
-Placed side (Ok x) s = s ≡ Ok x
-Placed side (Err (Refused f)) s = s ≡ Err (Refused (record { side = Some side; fault = f }))
-Placed side (Err NoMemory) s = s ≡ Err NoMemory
 
 -- what the films are where the job is refused, by its side, part, number and place
 abbrev pub JobRefused : List ℕ → List ℕ → Option Side → Part → ℕ × ℕ → Type 0

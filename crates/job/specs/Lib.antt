@@ -1,3 +1,4 @@
+pub mod Failures
 pub mod Records
 pub mod Faults
 pub mod Films

@@ -1,5 +1,6 @@
 -- The printed line.
 use Rattle.std.specs.Prelude.{◌≡◌, ℕ, List, [], ◌∷◌, ◌++◌, Some, None, Ok, Err, codes, decimal, Option, Result}
+use Rattle.board.specs.Texts.{numbered_text}
 use Rattle.board.specs.declared.finding.Finding.{Finding}
 use Rattle.board.specs.declared.side.Side.{Side}
 use Rattle.board.specs.declared.side.Side.TheVariants.{Film, Drawing}
@@ -23,6 +24,11 @@ abbrev pub part_word : Part → List ℕ
 part_word records_part = codes "records"
 part_word list_part = codes "list"
 part_word comparison_part = codes "comparison"
+
+-- what a fault prints: its side, its part, its number and its place
+abbrev pub fault_text : JobFault → List ℕ
+fault_text f =
+    side_letter f.side ++ 32 ∷ (part_word (part_of f.fault) ++ 32 ∷ numbered_text (job_numbered f).0 (job_numbered f).1)
 
 -- the line of a finding, and of a fault
 abbrev pub line_of : Result Finding JobFault → List ℕ

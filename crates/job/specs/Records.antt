@@ -1,5 +1,5 @@
 -- Records: the cells of a film as bytes.
-use Rattle.std.specs.Prelude.{◌≡◌, ℕ, ◌+◌, ◌*◌, ◌%◌, ◌<◌, ◌≤◌, ◌⊎◌, List, [], ◌∷◌, length, ◌≢◌}
+use Rattle.std.specs.Prelude.{◌≡◌, ℕ, ◌+◌, ◌*◌, ◌%◌, ◌<◌, ◌≤◌, ◌⊎◌, List, [], ◌∷◌, length, get_or, ◌≢◌}
 use Rattle.board.specs.Morton.{code}
 use Rattle.job.specs.declared.records.RecordsFault.{RecordsFault}
 use Rattle.job.specs.declared.records.RecordsFault.TheVariants.{TooManyBytes, NotWhole}
@@ -15,6 +15,10 @@ records (a ∷ []) = []
 records (a ∷ b ∷ []) = []
 records (a ∷ b ∷ c ∷ []) = []
 records (a ∷ b ∷ c ∷ d ∷ bs) = code (low_first a b) (low_first c d) ∷ records bs
+
+-- the code of the cell that four bytes stand for
+abbrev pub code_of_record : List ℕ → ℕ
+code_of_record r = code (low_first (get_or r 0 0) (get_or r 1 0)) (low_first (get_or r 2 0) (get_or r 3 0))
 
 -- bytes that are accepted: at most 4,096, and whole records
 pub record Sized (bs : List ℕ) : Type 0 where

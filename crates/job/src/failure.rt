@@ -1,5 +1,6 @@
 // How a call that allocates fails: it is refused, or finds no memory.
 ghost use Rattle.std.specs.Prelude.{◌≡◌};
+ghost use Rattle.job.specs.Failures.{refusal_of};
 ghost use Rattle.job.specs.declared.failure.Failure.TheVariants.{NoMemory};
 
 use std::alloc::{AllocError, AllocFailed as NotPlaced};
@@ -8,6 +9,18 @@ use std::alloc::{AllocError, AllocFailed as NotPlaced};
 pub enum Failure<F> {
     Refused(F),
     NoMemory,
+}
+
+impl<F: Drop> Failure<F> {
+    // The fault, where memory was not wanting.
+    pub fn refusal(self) -> Result<F, AllocError>
+        ensures fault_or_no_memory { result ≡ refusal_of self }
+    {
+        match self {
+            Failure::Refused(fault) => Ok(fault),
+            Failure::NoMemory => Err(AllocError),
+        }
+    }
 }
 
 impl<F> From<AllocError> for Failure<F> {

@@ -1,6 +1,6 @@
 // Why a job is refused: the fault of a part, whole, with the side that it is about.
 ghost use Rattle.std.specs.Prelude.{◌≡◌};
-ghost use Rattle.job.specs.Faults.{part_numbered, job_numbered, side_of};
+ghost use Rattle.job.specs.Faults.{part_numbered, job_numbered, side_of, placed};
 ghost use Rattle.job.specs.declared.failure.Failure.TheVariants.{Refused};
 ghost use Rattle.job.specs.declared.fault.PartFault.TheVariants.{Records, List, Comparison};
 
@@ -71,6 +71,21 @@ impl Refusal for JobFault {
 
     fn place(&self) -> usize {
         self.fault.place()
+    }
+}
+
+impl Failure<PartFault> {
+    // The same failure of the job, with the side that its fault is about.
+    pub fn on(self, side: Side) -> Failure<JobFault>
+        ensures placed { result ≡ placed side self }
+    {
+        match self {
+            Failure::Refused(fault) => Failure::Refused(JobFault {
+                side: Some(side),
+                fault,
+            }),
+            Failure::NoMemory => Failure::NoMemory,
+        }
     }
 }
 

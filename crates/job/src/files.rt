@@ -8,23 +8,18 @@ use std::{fs, io};
 // One byte more than a film may have, so that a longer file is noticed.
 pub const FILE_LIMIT: u64 = MOST_BYTES as u64 + 1;
 
-// The first bytes of the file, up to the limit; none where it cannot be read.
-pub fn read_film_file<R: Files>(rt: &R, heap: Global, path: &str) -> Result<Vec<u8>, AllocError> {
-    let mut file = match fs::open(rt, path) {
-        Ok(file) => file.take(FILE_LIMIT),
-        Err(error) => return unreadable(heap, error),
-    };
+// The first bytes of the file, up to the limit.
+fn read_bytes<R: Files>(rt: &R, heap: Global, path: &str) -> io::Result<Vec<u8>> {
+    let mut file = fs::open(rt, path)?.take(FILE_LIMIT);
     let mut bytes = Vec::new(heap);
-    match file.read_to_end(&mut bytes) {
-        Ok(_) => Ok(bytes),
-        Err(error) => unreadable(heap, error),
-    }
+    file.read_to_end(&mut bytes)?;
+    Ok(bytes)
 }
 
-// A file that cannot be read counts as empty; want of memory does not.
-fn unreadable(heap: Global, error: io::Error) -> Result<Vec<u8>, AllocError> {
-    match error.kind() {
+// The same; a file that cannot be read counts as empty, and want of memory does not.
+pub fn read_film_file<R: Files>(rt: &R, heap: Global, path: &str) -> Result<Vec<u8>, AllocError> {
+    read_bytes(rt, heap, path).or_else(|error| match error.kind() {
         io::ErrorKind::OutOfMemory => Err(AllocError),
         _ => Ok(Vec::new(heap)),
-    }
+    })
 }

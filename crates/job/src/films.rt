@@ -1,7 +1,8 @@
 // The job: both films are read, and then compared.
 ghost use Rattle.std.specs.Prelude.{◌≡◌, MatchResult};
 ghost use Rattle.board.specs.Distances.{distance as distance_of};
-ghost use Rattle.job.specs.Films.{FilmRead, FilmRefused, Stopped, Placed, Compared};
+ghost use Rattle.job.specs.Failures.{Stopped};
+ghost use Rattle.job.specs.Films.{FilmRead, FilmRefused, JobRefused, Compared};
 ghost use Rattle.job.specs.Faults.{part_of, part_numbered};
 ghost use Rattle.job.specs.Records.{records};
 
@@ -25,21 +26,23 @@ pub fn read_film(heap: Global, bytes: &[u8]) -> Result<Vec<u32>, Failure<PartFau
     Ok(codes)
 }
 
-// The same, with the side that a fault is about.
-fn on<T>(side: Side, res: Result<T, Failure<PartFault>>) -> Result<T, Failure<JobFault>>
-    ensures { Placed side res result }
-{
-    match res {
-        Ok(value) => Ok(value),
-        Err(Failure::Refused(fault)) => Err(Failure::Refused(JobFault {
-            side: Some(side),
-            fault,
-        })),
-        Err(Failure::NoMemory) => Err(Failure::NoMemory),
-    }
+// The codes of the film A and of the drawing B.
+#[derive(Drop)]
+pub struct Films {
+    pub film: Vec<u32>,
+    pub drawing: Vec<u32>,
 }
 
-// How far the film A strays from the drawing B. All of A is read before B, and both before they are compared.
+// Both films; all of A is read before B. Bytes come as two arguments, as in a distance from a to b.
+pub fn read_films(heap: Global, a: &[u8], b: &[u8]) -> Result<Films, Failure<JobFault>>
+    ensures read_or_refused { MatchResult result (λ v. FilmRead a.now × FilmRead b.now × (v.film.items ≡ records a.now) × (v.drawing.items ≡ records b.now)) (λ e. Stopped e (λ f. JobRefused a.now b.now f.side (part_of f.fault) (part_numbered f.fault))) }
+{
+    let film = read_film(heap, a).map_err(|failure| failure.on(Side::Film))?;
+    let drawing = read_film(heap, b).map_err(|failure| failure.on(Side::Drawing))?;
+    Ok(Films { film, drawing })
+}
+
+// How far the film A strays from the drawing B. Both are read before they are compared.
 pub fn compare_films<M: Measure>(
     heap: Global,
     a: &[u8],
@@ -48,8 +51,6 @@ pub fn compare_films<M: Measure>(
 ) -> Result<Finding, Failure<JobFault>>
     ensures strays_or_refused { Compared (distance_of (M.Measure.amount m.now)) a.now b.now result }
 {
-    let film = on(Side::Film, read_film(heap, a))?;
-    let drawing = on(Side::Drawing, read_film(heap, b))?;
-    let found = scan(film.as_slice(), drawing.as_slice(), m)?;
-    Ok(found)
+    let films = read_films(heap, a, b)?;
+    Ok(scan(films.film.as_slice(), films.drawing.as_slice(), m)?)
 }

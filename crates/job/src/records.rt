@@ -1,6 +1,6 @@
 // Records: a cell as four bytes, two for the column and two for the row, the low byte in front.
 ghost use Rattle.std.specs.Prelude.{◌≡◌, IfOk, MatchResult};
-ghost use Rattle.job.specs.Records.{records, Sized, RecordsRefused, records_numbered};
+ghost use Rattle.job.specs.Records.{records, code_of_record, Sized, RecordsRefused, records_numbered};
 
 use board::cell::Cell;
 use board::refusal::Refusal;
@@ -44,19 +44,22 @@ pub fn check_records(bytes: &[u8]) -> Result<(), RecordsFault>
     Ok(())
 }
 
+// The code of the cell that a record has.
+fn code_of(bytes: &[u8; RECORD]) -> u32
+    ensures { result ≡ code_of_record bytes.now }
+{
+    let [x_low, x_high, y_low, y_high] = *bytes;
+    let cell = Cell {
+        x: u16::from_le_bytes([x_low, x_high]),
+        y: u16::from_le_bytes([y_low, y_high]),
+    };
+    cell.code()
+}
+
 // The codes of the whole records, in their order; bytes behind the last whole record are passed over.
 pub fn codes_of(heap: Global, bytes: &[u8]) -> Result<Vec<u32>, AllocError>
     ensures codes_of_the_records { IfOk result (λ v. v.items ≡ records bytes.now) }
 {
-    let mut codes = Vec::new(heap);
-    let mut left = bytes;
-    while let [x_low, x_high, y_low, y_high, rest @ ..] = left {
-        let cell = Cell {
-            x: u16::from_le_bytes([*x_low, *x_high]),
-            y: u16::from_le_bytes([*y_low, *y_high]),
-        };
-        codes.push(cell.code())?;
-        left = rest;
-    }
-    Ok(codes)
+    let (whole, _) = bytes.as_chunks::<RECORD>();
+    whole.iter().map(|record| code_of(record)).collect(heap)
 }

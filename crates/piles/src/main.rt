@@ -9,7 +9,7 @@ ghost use Rattle.store.specs.Exact.{HoldsSet, exact};
 ghost use Rattle.store.specs.Rectangles.{Covers, filled};
 ghost use Rattle.store.specs.Windows.{windowed};
 
-use anyhow::anyhow;
+use anyhow::{Context, anyhow};
 use board::cell::Cell;
 use board::refusal::Refusal;
 use board::square::Square;
@@ -43,6 +43,7 @@ fn pile_up<'a>(outer: Rectangle, list: CodeList<'a>, frame: Rectangle, inner: Re
     Window::over(outer, Either::of(list, Window::over(frame, inner)))
 }
 
+// An answer has a letter in these pictures alone, so the letter is no part of its type.
 fn letter(answer: Answer) -> char {
     match answer {
         Answer::Empty => '.',
@@ -58,47 +59,42 @@ fn answers<S: Store>(
     level: u8,
     squares: u32,
 ) -> Result<String, AllocError> {
-    let mut text = String::new(heap);
-    for number in 0..squares {
-        text.push(letter(store.query(Square { level, number })))?;
-    }
-    Ok(text)
+    (0..squares)
+        .map(|number| letter(store.query(Square { level, number })))
+        .collect(heap)
 }
 
-// How many cells the store holds, of so many from this code on.
-fn held<S: Store>(store: &S, first: u32, cells: u32) -> u32 {
-    let mut count: u32 = 0;
-    for code in first..first.saturating_add(cells) {
-        if holds(store, Cell::from_code(code)) {
-            count = count.saturating_add(1);
-        }
-    }
-    count
+// How many cells of the square the store holds, of those in the corner.
+fn held<S: Store>(store: &S, square: Square) -> usize {
+    (0..CELLS)
+        .map(|code| Cell::from_code(code))
+        .filter(|cell| square.holds(*cell) && holds(store, *cell))
+        .count()
 }
 
 // The number of cells held in each square of this level, by their numbers.
-fn counts<S: Store>(heap: Global, store: &S, squares: u32) -> Result<String, AllocError> {
+fn counts<S: Store>(
+    heap: Global,
+    store: &S,
+    level: u8,
+    squares: u32,
+) -> Result<String, AllocError> {
     let mut text = String::new(heap);
-    if squares == 0 {
-        return Ok(text);
-    }
-    let cells = CELLS / squares;
     for number in 0..squares {
-        let count = held(store, number.saturating_mul(cells), cells);
-        text.push_str(&format!(in heap; " {count}")?)?;
+        let count = held(store, Square { level, number });
+        write!(text, " {count}")?;
     }
     Ok(text)
 }
 
 fn show<S: Store>(rt: &HostRuntime, name: &str, store: &S) -> anyhow::Result<()> {
     println!(rt; "{name}")?;
-    let mut squares = CELLS;
-    for level in 0..CORNER + 1 {
+    for level in 0..=CORNER {
+        let squares = CELLS >> (2 * level);
         let answers = answers(rt.alloc(), store, level, squares)?;
-        let counts = counts(rt.alloc(), store, squares)?;
+        let counts = counts(rt.alloc(), store, level, squares)?;
         println!(rt; "  level {level}: {answers}")?;
         println!(rt; "  cells  :{counts}")?;
-        squares = squares / 4;
     }
     let board = answers(rt.alloc(), store, 16, 2)?;
     let above = answers(rt.alloc(), store, 17, 1)?;
@@ -108,9 +104,7 @@ fn show<S: Store>(rt: &HostRuntime, name: &str, store: &S) -> anyhow::Result<()>
 
 // A refusal, by its number and its place.
 fn show_refusal<R: Refusal>(rt: &HostRuntime, what: &str, fault: &R) -> anyhow::Result<()> {
-    let number = fault.number();
-    let place = fault.place();
-    println!(rt; "{what} refused: {number} {place}")?;
+    println!(rt; "{what} refused: {}", fault.numbered())?;
     Ok(())
 }
 
@@ -121,13 +115,10 @@ fn rectangle(
     east: u16,
     north: u16,
 ) -> anyhow::Result<Rectangle> {
-    match Rectangle::new(west, south, east, north) {
-        Ok(rectangle) => Ok(rectangle),
-        Err(fault) => {
-            show_refusal(rt, "rectangle", &fault)?;
-            Err(anyhow!("no rectangle"))
-        }
-    }
+    Rectangle::new(west, south, east, north).or_else(|fault| {
+        show_refusal(rt, "rectangle", &fault)?;
+        Err(anyhow!("no rectangle"))
+    })
 }
 
 // Fills the list, or says why not.
@@ -136,10 +127,8 @@ fn fill(
     list: &mut CodeList<'static>,
     codes: &'static [u32],
 ) -> anyhow::Result<()> {
-    match list.open(codes) {
-        Ok(()) => Ok(()),
-        Err(fault) => show_refusal(rt, "list", &fault),
-    }
+    list.open(codes)
+        .or_else(|fault| show_refusal(rt, "list", &fault))
 }
 
 fn run(rt: &HostRuntime) -> anyhow::Result<()> {
@@ -157,9 +146,7 @@ fn run(rt: &HostRuntime) -> anyhow::Result<()> {
         "window over an either over a list and a window of a rectangle",
         &pile_up(outer, list, frame, inner),
     )?;
-    let Some(stripes) = Stripes::new(3) else {
-        return Err(anyhow!("no stripes"));
-    };
+    let stripes = Stripes::new(3).context("no stripes")?;
     show(
         rt,
         "window over stripes at a pitch of three",

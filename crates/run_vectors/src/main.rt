@@ -1,54 +1,22 @@
 // Replays cases from outside: each has a measure, the places of both lists, two films in hexadecimal, and calls; the answer to each call is written.
 #![tactic(auto)]
 
-ghost use Rattle.std.specs.Prelude.{◌<◌, IfSome};
-
 use anyhow::anyhow;
-use guide::films::{Kind, Setting, guide, kind_named};
-use guide::script::{Command, Line, read_line};
-use std::alloc::{AllocError, Global};
+use guide::films::{Setting, guide};
+use guide::kind::Kind;
+use guide::script::{Command, read_line};
+use samples::films::film_of;
+use std::alloc::Global;
 use std::io::{BufRead, BufReader};
-
-// The value of a hexadecimal digit.
-fn digit(c: u8) -> Option<u8>
-    ensures below_sixteen { IfSome result (λ d. d < 16) }
-{
-    match c {
-        b'0'..=b'9' => Some(c - b'0'),
-        b'a'..=b'f' => Some(c - b'a' + 10),
-        _ => None,
-    }
-}
-
-// The bytes that pairs of digits stand for; none for a film written as -.
-fn bytes_of(heap: Global, text: &str) -> Result<Vec<u8>, AllocError> {
-    let mut bytes = Vec::new(heap);
-    let mut left = text.as_bytes();
-    while let [high, low, rest @ ..] = left {
-        let (Some(high), Some(low)) = (digit(*high), digit(*low)) else {
-            return Ok(Vec::new(heap));
-        };
-        bytes.push(high * 16 + low)?;
-        left = rest;
-    }
-    Ok(bytes)
-}
 
 // The setting of a case: its name, the measure, and the places of both lists.
 fn setting_of(text: &str) -> Option<Setting> {
     let mut words = text.split_whitespace();
     let _name = words.next()?;
-    let kind = kind_named(words.next()?)?;
-    let Ok(suspects) = words.next()?.parse::<usize>() else {
-        return None;
-    };
-    let Ok(neighbours) = words.next()?.parse::<usize>() else {
-        return None;
-    };
     Some(Setting {
-        kind,
-        suspects,
-        neighbours,
+        kind: words.next()?.parse().ok()?,
+        suspects: words.next()?.parse().ok()?,
+        neighbours: words.next()?.parse().ok()?,
     })
 }
 
@@ -61,41 +29,43 @@ struct Case {
     commands: Vec<Command>,
 }
 
-fn case_with(heap: Global, setting: Setting) -> Case {
-    Case {
-        setting,
-        film: Vec::new(heap),
-        drawing: Vec::new(heap),
-        commands: Vec::new(heap),
+impl Case {
+    // A case with no film and no command yet.
+    fn new(heap: Global, setting: Setting) -> Case {
+        Case {
+            setting,
+            film: Vec::new(heap),
+            drawing: Vec::new(heap),
+            commands: Vec::new(heap),
+        }
     }
-}
 
-// Writes the answers of a case.
-fn finish(rt: &HostRuntime, case: &Case) -> anyhow::Result<()> {
-    let film = case.film.as_slice();
-    let drawing = case.drawing.as_slice();
-    rt.print(guide(
-        rt.alloc(),
-        film,
-        drawing,
-        case.setting,
-        case.commands.as_slice(),
-    )?)?;
-    Ok(())
-}
-
-// One more line of a case.
-fn take_line(heap: Global, case: &mut Case, line: &str) -> anyhow::Result<()> {
-    match line.split_once(' ') {
-        Some(("a", film)) => case.film = bytes_of(heap, film)?,
-        Some(("b", drawing)) => case.drawing = bytes_of(heap, drawing)?,
-        _ => match read_line(line) {
-            Line::Command(command) => case.commands.push(command)?,
-            Line::Passed => {}
-            Line::Unknown => return Err(anyhow!("a line is no call")),
-        },
+    // Writes the answers.
+    fn finish(&self, rt: &HostRuntime) -> anyhow::Result<()> {
+        rt.print(guide(
+            rt.alloc(),
+            self.film.as_slice(),
+            self.drawing.as_slice(),
+            self.setting,
+            self.commands.as_slice(),
+        )?)?;
+        Ok(())
     }
-    Ok(())
+
+    // Takes one more line.
+    fn take_line(&mut self, heap: Global, line: &str) -> anyhow::Result<()> {
+        match line.split_once(' ') {
+            Some(("a", film)) => self.film = film_of(heap, film)?,
+            Some(("b", drawing)) => self.drawing = film_of(heap, drawing)?,
+            _ => {
+                let command = read_line(line).map_err(|_| anyhow!("a line is no call"))?;
+                if let Some(command) = command {
+                    self.commands.push(command)?;
+                }
+            }
+        }
+        Ok(())
+    }
 }
 
 fn run(rt: &HostRuntime) -> anyhow::Result<()> {
@@ -105,7 +75,7 @@ fn run(rt: &HostRuntime) -> anyhow::Result<()> {
         suspects: 0,
         neighbours: 0,
     };
-    let mut case = case_with(heap, setting);
+    let mut case = Case::new(heap, setting);
     for line in BufReader::new(heap, rt.stdin())?.lines(heap) {
         let line = line?;
         match line.as_str().strip_prefix("case ") {
@@ -113,13 +83,13 @@ fn run(rt: &HostRuntime) -> anyhow::Result<()> {
                 let Some(setting) = setting_of(text) else {
                     return Err(anyhow!("a case has no setting"));
                 };
-                finish(rt, &case)?;
-                case = case_with(heap, setting);
+                case.finish(rt)?;
+                case = Case::new(heap, setting);
             }
-            None => take_line(heap, &mut case, line.as_str())?,
+            None => case.take_line(heap, line.as_str())?,
         }
     }
-    finish(rt, &case)
+    case.finish(rt)
 }
 
 fn main(rt: HostRuntime) -> anyhow::Result<()> {

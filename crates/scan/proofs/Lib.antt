@@ -1,3 +1,3 @@
 pub mod Loops
-pub mod Turns
+pub mod Rounds
 pub mod Decoded

@@ -1,3 +1,4 @@
 pub mod Faults
 pub mod Pairs
+pub mod Rounds
 pub mod TwoWays

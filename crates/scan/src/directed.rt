@@ -9,22 +9,18 @@ ghost use Rattle.scan.specs.Faults.{ScanRefused, Scanned, scan_numbered, scan_si
 
 use crate::fault::ScanFault;
 use crate::worst::worst;
-use board::cell::Cell;
 use board::finding::Finding;
 use board::list::check_list;
 use board::measure::Measure;
 use board::side::Side;
 
+// The two lists and the measure come as they are lent: a struct of them would say no more.
 // Refuses a list that is out of order or too long, A's before B's, and then an empty one.
 pub(crate) fn check(a: &[u32], b: &[u32]) -> Result<(), ScanFault>
     ensures { MatchResult result (λ _. Scanned a.now b.now) (λ f. ScanRefused a.now b.now (scan_side f) (scan_numbered f)) }
 {
-    if let Err(fault) = check_list(a) {
-        return Err(ScanFault::List(Side::Film, fault));
-    }
-    if let Err(fault) = check_list(b) {
-        return Err(ScanFault::List(Side::Drawing, fault));
-    }
+    check_list(a).map_err(|fault| ScanFault::List(Side::Film, fault))?;
+    check_list(b).map_err(|fault| ScanFault::List(Side::Drawing, fault))?;
     if a.is_empty() {
         return Err(ScanFault::NoCell(Side::Film));
     }
@@ -40,14 +36,7 @@ pub(crate) fn finding<M: Measure>(a: &[u32], b: &[u32], m: &M) -> Finding
     ensures found { Finds (distance_of (M.Measure.amount m.now)) (Has a.now) (Has b.now) result }
     ensures limited { result.distance ≤ most }
 {
-    match worst(a, b, m) {
-        Some(pair) => Finding {
-            distance: pair.distance,
-            film: Cell::from_code(pair.film),
-            drawing: Cell::from_code(pair.drawing),
-        },
-        None => unreachable(),
-    }
+    worst(a, b, m).unwrap()
 }
 
 // How far the cells of A stray from those of B, and the pair that shows it.

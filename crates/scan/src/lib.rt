@@ -3,5 +3,6 @@
 
 pub mod directed;
 pub mod fault;
+mod round;
 pub mod two_way;
 mod worst;

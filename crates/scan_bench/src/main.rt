@@ -1,9 +1,11 @@
 // How many pairs of cells the scan looks at, of all that there are, on films of four kinds.
 #![tactic(auto)]
 
-use anyhow::anyhow;
 use board::cell::Cell;
 use board::measure::{Amount, Measure, Squared};
+use board::refusal::Refusal;
+use samples::dice::Dice;
+use samples::lists::in_order;
 use scan::directed::scan;
 use std::alloc::{AllocError, Global};
 use std::cell::Cell as Counter;
@@ -28,47 +30,28 @@ impl<M: Measure> Measure for Counted<M> {
 
 // A block of side by side cells, its southwest corner at (x, y).
 fn block(heap: Global, x: u16, y: u16, side: u16) -> Result<Vec<u32>, AllocError> {
-    let mut codes = Vec::new(heap);
-    for dy in 0..side {
-        for dx in 0..side {
-            let cell = Cell {
-                x: x.wrapping_add(dx),
-                y: y.wrapping_add(dy),
-            };
-            codes.push(cell.code())?;
-        }
-    }
-    codes.sort()?;
-    Ok(codes)
+    let cells = (0..side).flat_map(|dy| {
+        (0..side).map(move |dx| Cell {
+            x: x.wrapping_add(dx),
+            y: y.wrapping_add(dy),
+        })
+    });
+    Ok(in_order(cells.map(|cell| cell.code()).collect(heap)?))
 }
 
 // A row of cells from (x, y) on to the east.
 fn row(heap: Global, x: u16, y: u16, count: u16) -> Result<Vec<u32>, AllocError> {
-    let mut codes = Vec::new(heap);
-    for dx in 0..count {
-        let cell = Cell {
-            x: x.wrapping_add(dx),
-            y,
-        };
-        codes.push(cell.code())?;
-    }
-    codes.sort()?;
-    Ok(codes)
+    let cells = (0..count).map(|dx| Cell {
+        x: x.wrapping_add(dx),
+        y,
+    });
+    Ok(in_order(cells.map(|cell| cell.code()).collect(heap)?))
 }
 
 // Cells all over the board, from a fixed generator.
 fn scattered(heap: Global, seed: u64, count: u16) -> Result<Vec<u32>, AllocError> {
-    let mut codes = Vec::new(heap);
-    let mut state = seed;
-    for _ in 0..count {
-        state = state
-            .wrapping_mul(6364136223846793005)
-            .wrapping_add(1442695040888963407);
-        codes.push((state >> 32) as u32)?;
-    }
-    codes.sort()?;
-    codes.dedup();
-    Ok(codes)
+    let mut dice = Dice { state: seed };
+    Ok(in_order((0..count).map(|_| dice.roll()).collect(heap)?))
 }
 
 fn shown(rt: &HostRuntime, name: &str, a: &[u32], b: &[u32]) -> anyhow::Result<()> {
@@ -76,13 +59,11 @@ fn shown(rt: &HostRuntime, name: &str, a: &[u32], b: &[u32]) -> anyhow::Result<(
         inner: Squared,
         calls: Counter::new(0),
     };
-    let found = match scan(a, b, &measure) {
-        Ok(found) => found.distance,
-        Err(_) => return Err(anyhow!("a list is refused")),
-    };
+    let found = scan(a, b, &measure).map_err(|fault| fault.numbered())?;
+    let distance = found.distance;
     let looked = measure.calls.get();
     let all = (a.len() as u64).wrapping_mul(b.len() as u64);
-    println!(rt; "{name}: distance {found}, {looked} of {all} pairs")?;
+    println!(rt; "{name}: distance {distance}, {looked} of {all} pairs")?;
     Ok(())
 }
 

@@ -1,11 +1,10 @@
 -- What a place written or given up does to the bag of the first places.
-use Rattle.std.proofs.Common.{◌≡◌, ℕ, ◌+◌, ◌-◌, ◌<◌, ◌≤◌, min, ◌⊎◌, List, [], ◌∷◌, ◌++◌, length, get_or, take, set, Ordering, sym, ap, ◌∙◌, subst, inl, inr, arith, length-set, length-take}
+use Rattle.std.proofs.Common.{◌≡◌, ℕ, ◌+◌, ◌-◌, ◌<◌, ◌≤◌, List, [], ◌∷◌, ◌++◌, length, get_or, take, set, slice_get, Ordering, sym, refl, ap, ◌∙◌, subst, arith, length-set}
 use lib.Seq.{take-set-lt}
-use Rattle.std.proofs.lemmas.Bool.{cases_lt}
 use Rattle.std.specs.List.Sorted.{IsPermutation}
 use Rattle.std.specs.Slice.Heapsort.{IsHeapWithin}
 use Rattle.std.specs.List.{swap as exchanged, swap_remove, ContainsAt as Has}
-use Rattle.std.specs.Cmp.{IsTotalOrder}
+use Rattle.std.specs.Cmp.{IsTotalOrder, back_total}
 use Rattle.std.proofs.lemmas.List.{take_more_set, take_all, take-take, length-take-le, get_or-take, get_or_read, length_push, take_at}
 use Rattle.std.proofs.lemmas.List.Sorted.{IsPermutation-sym, IsPermutation-to_front, IsPermutation-swap, IsPermutation-trans, IsPermutation-cons, length_permutation}
 use Rattle.std.proofs.lemmas.List.Edits.{swap_is}
@@ -13,14 +12,11 @@ use Rattle.std.proofs.ByRecursion.{has_get_or}
 use Rattle.std.proofs.HeapSift as sifts
 use Rattle.std.specs.BinaryHeap.{lt_by_cmp, IsHeap}
 use Rattle.std.specs.BinaryHeap.Sift.{RestoresHeap, SiftsUp, SiftsDown}
-use Rattle.search.specs.Orders.{back, turned}
-use Rattle.search.specs.WaitingLists.{Stays, Drawn, InHeap, FirstIn}
+use Rattle.std.specs.Ordering.{flip_args}
+use Rattle.search.specs.declared.waiting.WaitingList.{WaitingList}
+use Rattle.search.specs.WaitingLists.{waiting, Stays, Drawn, InHeap, FirstIn, Shown}
 
 module _ {X : Type 0} where
-  -- one more entry, in the next place
-  pub gains : (xs : List X) (n : ℕ) (x : X) → n < length xs → IsPermutation (x ∷ take n xs) (take (n + 1) (set xs n x))
-  gains xs n x h = rw (take_more_set xs n x h) (IsPermutation-sym _ _ (IsPermutation-to_front (take n xs) x))
-
   -- the last entry goes into the place of the one that leaves
   pub loses : (xs : List X) (n b : ℕ) (x y : X) → b < n → n ≤ length xs → x ≡ get_or xs b x → y ≡ get_or xs (n - 1) y → IsPermutation (take n xs) (x ∷ take (n - 1) (set xs b y))
   loses xs n b x y h k p q =
@@ -39,22 +35,14 @@ module _ {X : Type 0} where
       let swap : IsPermutation ys (take (n - 1) w ++ x ∷ []) = IsPermutation-swap ys _ b (n - 1) (omega arith) (omega arith) (sym cut ∙ whole ∙ is) in
       subst (λ l. IsPermutation ys (x ∷ l)) front (IsPermutation-trans ys _ _ swap (IsPermutation-to_front (take (n - 1) w) x))
 
-  -- the first places up to the count, or up to the end
-  pub front : (xs : List X) (c n : ℕ) → n ≡ length (take c xs) → take n xs ≡ take c xs
-  front xs c n e = by_cases (cases_lt (length xs) c)
-    where
-      by_cases : (length xs < c) ⊎ (c ≤ length xs) → take n xs ≡ take c xs
-      by_cases (inl h) = let m : n ≡ min c (length xs) = e ∙ length-take c xs in take_all n xs (omega arith) ∙ sym (take_all c xs (omega arith))
-      by_cases (inr h) = ap (λ k. take k xs) (e ∙ length-take-le c xs h)
-
 -- what sank from the first place is a heap again
 mends : {X : Type 0} (R : X → X → Ordering) (xs ys : List X) (n : ℕ) → length ys ≡ n → SiftsDown R xs 0 n ys → RestoresHeap R xs 1 n ys
 unfolding RestoresHeap SiftsDown IsHeap
 mends R xs ys n e h = λ k. subst (IsHeapWithin (lt_by_cmp R) ys 0) (sym e) (h.1 k)
 
-module _ {X : Type 0} (R : X → X → Ordering) where
+module _ {X : Type 0} (R : X → X → Ordering) (o : IsTotalOrder R) where
   -- x in the next place, and risen from there
-  pub placed : (xs zs rest : List X) (n : ℕ) (x : X) → n < length xs → IsPermutation (take (n + 1 - 0) (set xs n x)) zs → SiftsUp (back R) (take (n + 1 - 0) (set xs n x)) n zs
+  pub placed : (xs zs rest : List X) (n : ℕ) (x : X) → n < length xs → IsPermutation (take (n + 1 - 0) (set xs n x)) zs → SiftsUp (flip_args R) (take (n + 1 - 0) (set xs n x)) n zs
       → IsPermutation (x ∷ take n xs) (take (n + 1) (zs ++ rest)) × Stays R (take n xs) (take (n + 1) (zs ++ rest))
   placed xs zs rest n x h s r =
       let ys = take (n + 1 - 0) (set xs n x) in
@@ -65,12 +53,12 @@ module _ {X : Type 0} (R : X → X → Ordering) where
       let out : take (n + 1) (zs ++ rest) ≡ zs = take_at zs rest (n + 1) long in
       let front' : IsPermutation (x ∷ take n xs) ys = subst (IsPermutation (x ∷ take n xs)) (sym is) (IsPermutation-sym _ _ (IsPermutation-to_front (take n xs) x)) in (
         subst (IsPermutation (x ∷ take n xs)) (sym out) (IsPermutation-trans (x ∷ take n xs) ys zs front' s),
-        subst (Stays R (take n xs)) (sym out) (λ o. sifts.pushed (back R) (turned o) (take n xs) (x ∷ []) ys zs n (sym short) is long r),
+        subst (Stays R (take n xs)) (sym out) (sifts.pushed (flip_args R) (back_total o) (take n xs) (x ∷ []) ys zs n (sym short) is long r),
       )
 
   -- the last in the first place, and sunk from there
   pub drawn_out : (xs zs rest : List X) (n : ℕ) (x y : X) → 0 < n → n ≤ length xs → x ≡ get_or xs 0 x → y ≡ get_or xs (n - 1) y
-      → IsPermutation (take (n - 1 - 0) (set xs 0 y)) zs → SiftsDown (back R) (take (n - 1 - 0) (set xs 0 y)) 0 (length (take (n - 1 - 0) (set xs 0 y))) zs
+      → IsPermutation (take (n - 1 - 0) (set xs 0 y)) zs → SiftsDown (flip_args R) (take (n - 1 - 0) (set xs 0 y)) 0 (length (take (n - 1 - 0) (set xs 0 y))) zs
       → IsPermutation (take n xs) (x ∷ take (n - 1) (zs ++ rest)) × Drawn R (take n xs) x (take (n - 1) (zs ++ rest))
   drawn_out xs zs rest n x y h k p q s r =
       let ys = take (n - 1 - 0) (set xs 0 y) in
@@ -87,14 +75,12 @@ module _ {X : Type 0} (R : X → X → Ordering) where
       let cut : ys ≡ swap_remove l 0 x = is ∙ sym (take-take (n - 1) n (set xs 0 y) (omega arith)) ∙ ap (take (n - 1)) (take-set-lt n xs 0 y h) ∙ (λ i. take (sym less i) (set l 0 (sym last i))) in
       let first : x ≡ get_or l 0 x = p ∙ sym (get_or-take n xs 0 x h) in
       let bag : IsPermutation l (x ∷ ys) = subst (λ v. IsPermutation l (x ∷ v)) (sym is) (loses xs n 0 x y h k p q) in
-      let heap : RestoresHeap (back R) ys 1 (n - 1) zs = subst (λ m. RestoresHeap (back R) ys 1 m zs) short (mends (back R) ys zs (length ys) (kept ∙ sym short) r) in (
+      let heap : RestoresHeap (flip_args R) ys 1 (n - 1) zs = subst (λ m. RestoresHeap (flip_args R) ys 1 m zs) short (mends (flip_args R) ys zs (length ys) (kept ∙ sym short) r) in (
         subst (λ v. IsPermutation l (x ∷ v)) (sym out) (IsPermutation-trans l (x ∷ ys) (x ∷ zs) bag (IsPermutation-cons x ys zs s)),
-        subst (Drawn R l x) (sym out) (λ o. sifts.popped (back R) (turned o) l ys zs x (n - 1) (omega arith) first cut heap),
+        subst (Drawn R l x) (sym out) (sifts.popped (flip_args R) (back_total o) l ys zs x (n - 1) (omega arith) first cut heap),
       )
 
   -- what stands in the first place
-  pub shown : (xs : List X) (c n : ℕ) (x : X) → n ≡ length (take c xs) → (n ≡ 0 → ⊥) → x ≡ get_or xs 0 x → Has (take c xs) x × ((o : IsTotalOrder R) → InHeap o (take c xs) → FirstIn o x (take c xs))
-  shown xs c n x e some p =
-      let c+ : 0 < c = omega (arith, length-take c xs) in
-      let first : x ≡ get_or (take c xs) 0 x = p ∙ sym (get_or-take c xs 0 x c+) in
-      (subst (Has (take c xs)) (sym first) (has_get_or (take c xs) 0 x (omega arith)), λ o h. sifts.greatest (turned o) (take c xs) x first h)
+  pub shown : (w : WaitingList X) (xs : List X) → waiting w ≡ xs → Shown R w (slice_get xs 0)
+  shown w [] e = e
+  shown w (x ∷ xs) e = subst (λ l. Has l x × (InHeap R l → FirstIn R x l)) (sym e) (has_get_or (x ∷ xs) 0 x (omega arith), sifts.greatest (back_total o) (x ∷ xs) x refl)

@@ -1,10 +1,11 @@
 -- What lies in a square lies in one of its quarters, and between its ends.
 use Rattle.std.proofs.Common.{◌≡◌, ℕ, zero, suc, ◌+◌, ◌-◌, ◌*◌, ◌/◌, ◌%◌, ◌^◌, ◌<◌, ◌≤◌, sym, ap, ◌∙◌, subst, mul-le-mul_right, mul_assoc, suc-mul, mul_comm, lt_of_mul-lt-mul_right, mul-le-mul_left, pow-suc, zero-add, div-mul-le_self, le_of_mul-le-mul_right, div-one, arith, pow-add}
 use native.Mathlib.Nat.{div-div-eq-div-mul}
-use Rattle.std.proofs.lemmas.Nat.{div-add-mod', mod_below, div-mul-add}
+use Rattle.std.proofs.lemmas.Nat.{div-mul-add}
 use Rattle.board.specs.Squares.{OnBoard}
 use Rattle.board.specs.declared.square.Square.{Square}
-use Rattle.board.proofs.Boards.{four_positive, code_fits}
+use Rattle.board.proofs.Boards.{code_fits}
+use Rattle.board.specs.SquareOrderFacts.{four_positive}
 use Rattle.board.specs.Limits.{parts, top, codes}
 use Rattle.search.specs.Descents.{Under, Before, starts, ends, quarter}
 
@@ -21,12 +22,6 @@ under_quarter e m n q h u =
     let f : parts ^ (m - e) ≡ parts ^ x * parts = ap (λ y. parts ^ y) i ∙ pow-suc parts x in
     let d : q / parts ^ x / parts ≡ n = div-div-eq-div-mul q (parts ^ x) parts ∙ ap (λ y. q / y) (sym f) ∙ u in
     omega arith
-
--- a square lies under no other of its own level
-pub under_here : (e n q : ℕ) → Under e e n q → q ≡ n
-under_here e n q u =
-    let i : e - e ≡ 0 = omega arith in
-    sym (div-one q) ∙ ap (λ y. q / parts ^ y) (sym i) ∙ u
 
 -- what goes from each square to its quarters goes down to all that lies under it
 down : (l q : ℕ) (Q : ℕ → ℕ → Type 0) → ((m n k : ℕ) → l ≤ m → m < top → k < parts → Q (m + 1) n → Q m (parts * n + k))
@@ -59,15 +54,6 @@ under_starts e m n q h u =
     let d = parts ^ (m - e) in
     let a : n * d ≤ q = subst (λ x. x * d ≤ q) u (div-mul-le_self q d) in
     omega (arith, mul-le-mul_right (parts ^ e) a, scaled e m n h)
-
-pub under_ends : (e m n q : ℕ) → e ≤ m → Under e m n q → q * parts ^ e < (n + 1) * parts ^ m
-under_ends e m n q h u =
-    let d = parts ^ (m - e) in
-    let r = mod_below q d (four_positive (m - e)) in
-    let s = div-add-mod' q d in
-    let a : suc q ≤ suc n * d = subst (λ x. suc q ≤ suc x * d) u (omega (arith, suc-mul (q / d) d)) in
-    let e1 : n + 1 ≡ suc n = omega arith in
-    omega (arith, mul-le-mul_right (parts ^ e) a, suc-mul q (parts ^ e), four_positive e, scaled e m (suc n) h, ap (λ x. x * parts ^ m) e1)
 
 -- what begins between the ends of a square lies under it
 pub between_under : (e m n q : ℕ) → e ≤ m → n * parts ^ m ≤ q * parts ^ e → q * parts ^ e < (n + 1) * parts ^ m → Under e m n q

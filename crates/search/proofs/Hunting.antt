@@ -1,10 +1,12 @@
 -- What a square that is met does to what was found.
-use Rattle.std.proofs.Common.{◌≡◌, ℕ, ◌+◌, ◌-◌, ◌/◌, ◌^◌, ◌≤◌, Some, None, Option, le_trans, add-zero, div-one, arith}
+use Rattle.std.proofs.Common.{◌≡◌, ℕ, ◌+◌, ◌-◌, ◌/◌, ◌^◌, ◌≤◌, Some, None, Option, refl, le_trans, add-zero, div-one, arith}
 use Rattle.board.specs.Distances.{near, far, Bounds}
 use Rattle.board.specs.Limits.{parts}
+use Rattle.store.specs.declared.store.Answer.{Answer}
 use Rattle.search.specs.declared.hunt.Partner.{Partner}
+use Rattle.search.specs.declared.hunt.Hunt.{Hunt}
 use Rattle.search.specs.Descents.{Under}
-use Rattle.search.specs.Hunts.{Settled, Beyond}
+use Rattle.search.specs.Hunts.{Settled, Beyond, Hunted}
 
 module _ (f : ℕ → ℕ → ℕ) (bounds : Bounds f) (l r : ℕ) where
   -- nothing that lies in a square is nearer to the square r than it
@@ -22,3 +24,7 @@ module _ (f : ℕ → ℕ → ℕ) (bounds : Bounds f) (l r : ℕ) where
 pub beyond_more : (best : Option Partner) (a b : ℕ) → a ≤ b → Beyond best a → Beyond best b
 beyond_more None a b h k = k
 beyond_more (Some p) a b h k = omega arith
+
+-- the hunt goes on for the same square
+pub same_aim : {B M : Type 0} (answers : B → ℕ → ℕ → Answer) (amount : M → ℕ → ℕ → ℕ) (v : Hunt B M) {w : Hunt B M} → Hunted answers amount v w → w.aim ≡ v.aim
+same_aim answers amount v h = (h.from v (refl, λ f. f)).0

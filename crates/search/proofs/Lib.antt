@@ -1,3 +1,4 @@
+pub mod Ranked
 pub mod Bags
 pub mod Piled
 pub mod Stacked

@@ -1,5 +1,5 @@
 -- What waits after an offer.
-use Rattle.std.proofs.Common.{◌≡◌, ℕ, true, List, [], ◌∷◌, sum_by, sym, refl, ap, ◌∙◌, subst, arith}
+use Rattle.std.proofs.Common.{◌≡◌, ℕ, true, List, [], ◌∷◌, sum_by, sym, ap, ◌∙◌, subst, arith}
 use Rattle.std.specs.List.{AllByRecursion}
 use Rattle.std.proofs.ByRecursion.{All-weaker, all_shuffled}
 use Rattle.std.proofs.lemmas.List.Sorted.{IsPermutation-sym, sum_by-IsPermutation}
@@ -18,7 +18,7 @@ module _ (l : ℕ) (near : ℕ → ℕ → ℕ) where
       → ((q : ℕ) → Under l s.level s.number q → D q) → Offered l near D (s ∷ []) v w
   offered_done D s v w r e h = record {
     space = r;
-    ready = λ k o. subst (InHeap o) (sym e) (k o);
+    ready = subst (InHeap ordered) (sym e);
     entries = subst (AllByRecursion (Entry l near)) (sym e);
     covers = λ q out. (subst (AllByRecursion (λ x. Outside l q x.square)) e out, (h q, tt));
     lighter = omega (arith, ap (sum_by (λ x. weight x.square)) e);
@@ -29,15 +29,11 @@ module _ (l : ℕ) (near : ℕ → ℕ → ℕ) where
       → Offered l near D (x.square ∷ []) v w
   offered_waits D x v w r a e = record {
     space = r;
-    ready = λ k o. a.2 o (k o);
+    ready = a.2;
     entries = λ h. all_shuffled (Entry l near) (x ∷ waiting v) (waiting w) a.1 (e, h);
     covers = λ q out. let o = all_shuffled (λ y. Outside l q y.square) (waiting w) (x ∷ waiting v) (IsPermutation-sym _ _ a.1) out in (o.1, (λ u. absurd (o.0 u), tt));
     lighter = omega (arith, sum_by-IsPermutation (λ y. weight y.square) (x ∷ waiting v) (waiting w) a.1, sum_by-cons (λ y. weight y.square) x (waiting v));
   }
-
-  -- nothing was offered yet
-  pub offered_none : (D : ℕ → Type 0) (v : WaitingList Neighbour) → Offered l near D [] v v
-  offered_none D v = record { space = refl; ready = λ k. k; entries = λ h. h; covers = λ q out. (out, tt); lighter = omega arith }
 
   -- one more was
   pub offered_more : (D D' : ℕ → Type 0) (s : Square) (ss : List Square) (u v w : WaitingList Neighbour) → ((q : ℕ) → D q → D' q)

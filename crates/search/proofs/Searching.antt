@@ -1,5 +1,5 @@
 -- The list of neighbours, turn by turn.
-use Rattle.std.proofs.Common.{◌≡◌, ℕ, ◌+◌, ◌-◌, ◌/◌, ◌%◌, ◌^◌, ◌<◌, ◌≤◌, false, ◌⊎◌, List, [], ◌∷◌, Some, None, sum_by, Option, sym, refl, ap, subst, inl, inr, ⊎_elim, arith}
+use Rattle.std.proofs.Common.{◌≡◌, ℕ, ◌+◌, ◌-◌, ◌/◌, ◌%◌, ◌^◌, ◌<◌, ◌≤◌, false, ◌⊎◌, List, [], ◌∷◌, Some, None, sum_by, Option, MatchOption, sym, refl, ap, subst, inl, inr, ⊎_elim, arith}
 use Rattle.std.specs.List.{AllByRecursion}
 use Rattle.std.specs.Ordering.{is_lt}
 use Rattle.std.proofs.lemmas.Bool.{cases_lt, cases_eq, both_ways}
@@ -19,8 +19,8 @@ use Rattle.search.specs.declared.hunt.Hunt.{Hunt}
 use Rattle.search.specs.WaitingLists.{waiting, Ready, Taken, FirstIn}
 use Rattle.search.specs.Descents.{Under, Outside, quarter}
 use Rattle.search.specs.Keys.{Keyed}
-use Rattle.search.specs.Neighbours.{before, ordered, neighbours}
-use Rattle.search.specs.Hunts.{Settled, Beyond, Done, Found, table, near_to, far_from, done}
+use Rattle.search.specs.Neighbours.{before, ordered}
+use Rattle.search.specs.Hunts.{Beyond, Done, Found, table, near_to, far_from, done}
 use Rattle.search.specs.Offers.{weight, Entry, Offered}
 use Rattle.search.specs.Piles.{piled}
 use Rattle.search.proofs.Below.{under_quarter}
@@ -28,7 +28,7 @@ use Rattle.search.proofs.Counting.{counted_under, counted_on_board}
 use Rattle.search.proofs.Fronts.{Covers, covers_next, weight_pos, fifth}
 use Rattle.search.proofs.Hunting.{beyond_under, beyond_more}
 use Rattle.search.proofs.Piled.{piled_each, piled_sum}
-use Rattle.search.specs.NeighbourFacts.{neighbours_are_ordered}
+use Rattle.search.proofs.Ranked.{neighbours_are_ordered}
 
 -- what waits: in order, with the right amounts, and nothing on the board is left out
 pub record Waits (l : ℕ) (near : ℕ → ℕ → ℕ) (D : ℕ → Type 0) (v : WaitingList Neighbour) : Type 0 where
@@ -57,6 +57,10 @@ module _ (l : ℕ) (near : ℕ → ℕ → ℕ) where
     covers = λ q u out. (o.covers q out).1.0 (subst (λ m. Under l m s.number q) (sym i) (subst (λ n. Under l top n q) (sym j) u));
   }
 
+  -- what is taken was an entry
+  pub taken : (D : ℕ → Type 0) (x : Neighbour) (v w : WaitingList Neighbour) → Waits l near D v → Taken ordered v (Some x) w → Entry l near x
+  taken D x v w h t = (all_shuffled (Entry l near) (waiting v) (x ∷ waiting w) t.0 h.entries).0
+
   -- the quarters of the first were offered
   pub waits_spread : (D D' : ℕ → Type 0) (x : Neighbour) (v w w' : WaitingList Neighbour) → Waits l near D v → Taken ordered v (Some x) w → ((q : ℕ) → D q → D' q)
       → Offered l near D' (piled (quarter x.square) parts []) w w' → Waits l near D' w'
@@ -65,7 +69,7 @@ module _ (l : ℕ) (near : ℕ → ℕ → ℕ) where
       let s = x.square in
       let cov : Covers (λ y. y.square) l (Under l top 0) D (x ∷ waiting w) = λ q p out. h.covers q p (all_shuffled (λ y. Outside l q y.square) (x ∷ waiting w) (waiting v) (IsPermutation-sym _ _ t.0) out) in
       record {
-        ready = o.ready (λ a. (t.1 a (h.ready a)).0);
+        ready = o.ready (t.1 h.ready).0;
         entries = o.entries es.1;
         covers = covers_next (λ y. y.square) l (Under l top 0) D D' x (waiting w) (waiting w') keep (λ q out. (o.covers q out).0)
             (λ q p u out.
@@ -92,7 +96,7 @@ module _ (f : ℕ → ℕ → ℕ) (b : Bounds f) (l r : ℕ) (t : ℕ → Answe
   pub waits_cleared : (best : Option Partner) (x : Neighbour) (v w w' : WaitingList Neighbour)
       → Waits l (near f l r) (Done t (far f l r l) best) v → Taken ordered v (Some x) w → Beyond best x.amount → waiting w' ≡ [] → Ready ordered w' → Waits l (near f l r) (Done t (far f l r l) best) w'
   waits_cleared best x v w w' h k z e ready' =
-      let first : FirstIn neighbours x (waiting v) = (k.1 neighbours (h.ready neighbours)).1 in
+      let first : FirstIn ordered x (waiting v) = (k.1 h.ready).1 in
       record {
         ready = ready';
         entries = subst (AllByRecursion (Entry l (near f l r))) (sym e) tt;
@@ -106,20 +110,18 @@ module _ (f : ℕ → ℕ → ℕ) (b : Bounds f) (l r : ℕ) (t : ℕ → Answe
         each q ys es.1 fs.1,
       )
 
--- what was found in the end
-module _ (f : ℕ → ℕ → ℕ) (t : ℕ → ℕ → Answer) (l n : ℕ) where
-  pub keyed_none : (best : Option Partner) → best ≡ None → ((q : ℕ) → Done (t l) (far f l n l) best q) → Keyed f t l n (f edge edge) 0
-  keyed_none best e h = inr record { none = λ q o. subst (λ b. Settled b (far f l n l q) q) e (h q o); amount = refl; zero = refl }
+-- what was found in the end, and what is answered of it
+module _ (f : ℕ → ℕ → ℕ) (t : ℕ → ℕ → Answer) (l n k p : ℕ) where
+  pub keyed : (best : Option Partner) → MatchOption best ((k ≡ f edge edge) × (p ≡ 0)) (λ b. (k ≡ b.key) × (p ≡ b.number))
+      → Found (t l) (far f l n l) best → ((q : ℕ) → Done (t l) (far f l n l) best q) → Keyed f t l n k p
+  keyed None m found h = inr record { none = h; amount = m.0; zero = m.1 }
+  keyed (Some b) m found h =
+      let best : Keyed f t l n b.key b.number = inl record { counted = found.0; amount = found.1; least = λ q o. (h q o).0; earliest = λ q o i. (h q o).1 (sym i) } in
+      subst (λ x. Keyed f t l n x p) (sym m.0) (subst (Keyed f t l n b.key) (sym m.1) best)
 
-  pub keyed_some : (best : Option Partner) (p : Partner) → best ≡ Some p → Found (t l) (far f l n l) best → ((q : ℕ) → Done (t l) (far f l n l) best q) → Keyed f t l n p.key p.number
-  keyed_some best p e found h =
-      let g = subst (Found (t l) (far f l n l)) e found in
-      let k : (q : ℕ) → Done (t l) (far f l n l) (Some p) q = λ q. subst (λ b. Done (t l) (far f l n l) b q) e (h q) in
-      inl record { counted = g.0; amount = g.1; least = λ q o. (k q o).0; earliest = λ q o i. (k q o).1 (sym i) }
-
-  -- above the board's level no square counts
-  pub keyed_above : StoreFacts t → top < l → Keyed f t l n (f edge edge) 0
-  keyed_above facts h = inr record { none = λ q o. omega (arith, (counted_on_board t facts l q o).0); amount = refl; zero = refl }
+-- above the board's level no square counts
+pub none_above : (t : ℕ → ℕ → Answer) (far : ℕ → ℕ) (l : ℕ) → StoreFacts t → top < l → (q : ℕ) → Done (t l) far None q
+none_above t far l facts h q o = omega (arith, (counted_on_board t facts l q o).0)
 
 -- when nothing waits any more, all is done, in the words of the aim a that the hunt began with
 pub finished : {B M : Type 0} (answers : B → ℕ → ℕ → Answer) (amount : M → ℕ → ℕ → ℕ) (a : Aim B M) (u v : Hunt B M) → u.aim ≡ a → v.aim ≡ a → StoreFacts (answers a.store.now)

@@ -1,7 +1,5 @@
-pub mod Orders
 pub mod WaitingLists
 pub mod Neighbours
-pub mod NeighbourFacts
 pub mod Descents
 pub mod Piles
 pub mod Stacks

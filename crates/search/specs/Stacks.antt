@@ -1,8 +1,8 @@
 -- What a stack of squares holds.
-use Rattle.std.specs.Prelude.{ℕ, ◌+◌, ◌-◌, ◌*◌, List, reverse, take}
+use Rattle.std.specs.Prelude.{ℕ, ◌+◌, ◌-◌, ◌*◌, List, reverse}
+use Rattle.arrayvec.specs.ArrayVec.{ArrayVec}
 use Rattle.board.specs.Limits.{top, parts}
 use Rattle.board.specs.declared.square.Square.{Square}
-use Rattle.search.specs.declared.stack.Stack.{Stack}
 use Rattle.search.specs.Descents.{quarter}
 
 -- the places of a stack
@@ -10,8 +10,8 @@ abbrev pub places : ℕ
 places = (parts - 1) * top + 1
 
 -- the squares on the stack, the last pushed first
-abbrev pub held : Stack → List Square
-held s = reverse (take s.count s.places)
+abbrev pub held : ArrayVec Square → List Square
+held s = reverse s.items
 
 -- the quarter that comes j-th from the last
 abbrev pub from_last : Square → ℕ → Square

@@ -2,11 +2,9 @@
 use Rattle.std.specs.Prelude.{◌≡◌, ℕ, ◌<◌, Bool, true, false, List, [], ◌∷◌, length, take, Some, None, Option}
 use Rattle.std.specs.declared.cmp.Ordering.{Ordering}
 use Rattle.std.specs.BinaryHeap.{IsHeap}
-use Rattle.std.specs.Cmp.{IsTotalOrder}
-use Rattle.std.specs.Ordering.{is_lt}
+use Rattle.std.specs.Ordering.{is_lt, flip_args}
 use Rattle.std.specs.List.Sorted.{IsPermutation}
 use Rattle.std.specs.List.{ContainsAt as Has, AllByRecursion}
-use Rattle.search.specs.Orders.{back}
 use Rattle.search.specs.declared.waiting.WaitingList.{WaitingList}
 
 module _ {X : Type 0} where
@@ -18,26 +16,26 @@ module _ {X : Type 0} where
   abbrev pub room : WaitingList X → ℕ
   room w = length w.places.now
 
+module _ {X : Type 0} (R : X → X → Ordering) where
   -- no entry comes before its parent, that at (i - 1) / 2: a heap whose first entry is at place 0
-  abbrev pub InHeap : {R : X → X → Ordering} → IsTotalOrder R → List X → Type 0
-  InHeap {R} o xs = IsHeap (back R) xs
+  abbrev pub InHeap : List X → Type 0
+  InHeap xs = IsHeap (flip_args R) xs
 
   -- no entry of xs comes before x
-  abbrev pub FirstIn : {R : X → X → Ordering} → IsTotalOrder R → X → List X → Type 0
-  FirstIn {R} o x xs = AllByRecursion (λ y. is_lt (R y x) ≡ false) xs
+  abbrev pub FirstIn : X → List X → Type 0
+  FirstIn x xs = AllByRecursion (λ y. is_lt (R y x) ≡ false) xs
 
-module _ {X : Type 0} (R : X → X → Ordering) where
   -- the list is a heap: what `new` and `clear` give, and `add` and `take` keep
   abbrev pub Ready : WaitingList X → Type 0
-  Ready w = (o : IsTotalOrder R) → InHeap o (waiting w)
+  Ready w = InHeap (waiting w)
 
   -- ys is a heap where xs is
   abbrev pub Stays : List X → List X → Type 0
-  Stays xs ys = (o : IsTotalOrder R) → InHeap o xs → InHeap o ys
+  Stays xs ys = InHeap xs → InHeap ys
 
   -- the same, and x is the first of xs
   abbrev pub Drawn : List X → X → List X → Type 0
-  Drawn xs x ys = (o : IsTotalOrder R) → InHeap o xs → InHeap o ys × FirstIn o x xs
+  Drawn xs x ys = InHeap xs → InHeap ys × FirstIn x xs
 
   -- what `add` does: the bag gains x where a place is free, and else stays
   abbrev pub Added : WaitingList X → X → Bool → WaitingList X → Type 0
@@ -47,7 +45,7 @@ module _ {X : Type 0} (R : X → X → Ordering) where
   -- what `first` shows: an entry that waits, and in a heap the first of them; none where none waits
   abbrev pub Shown : WaitingList X → Option X → Type 0
   Shown v None = waiting v ≡ []
-  Shown v (Some x) = Has (waiting v) x × ((o : IsTotalOrder R) → InHeap o (waiting v) → FirstIn o x (waiting v))
+  Shown v (Some x) = Has (waiting v) x × (InHeap (waiting v) → FirstIn x (waiting v))
 
   -- what `take` does: the bag loses the one entry that is answered, in a heap the first; none where none waits
   abbrev pub Taken : WaitingList X → Option X → WaitingList X → Type 0

@@ -5,7 +5,7 @@ ghost use Rattle.search.specs.Firsts.{NoneHeld, FirstHeld, FoundFirst, Searched}
 
 use crate::walk::{Visitor, walk};
 use board::cell::Cell;
-use board::square::{Square, TOP};
+use board::square::Square;
 use store::store::{Answer, Store};
 
 // Looks for the first cell: the code that was found so far.
@@ -51,13 +51,6 @@ pub fn first_cell<A: Store>(store: &A) -> Option<Cell>
     ensures first_or_none { MatchOption result (NoneHeld (A.Store.answers store.now)) (λ c. FirstHeld (A.Store.answers store.now) (code_of c)) }
 {
     let mut scout = Scout { store, first: None };
-    let board = Square {
-        level: TOP,
-        number: 0,
-    };
-    walk(&mut scout, board);
-    match scout.first {
-        None => None,
-        Some(code) => Some(Cell::from_code(code)),
-    }
+    walk(&mut scout, Square::BOARD);
+    scout.first.map(|code| Cell::from_code(code))
 }

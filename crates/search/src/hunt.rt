@@ -1,7 +1,7 @@
 // The hunt for a partner: what was found so far, and what a square does to it.
 ghost use Rattle.std.specs.Prelude.{◌≡◌, ℕ, ◌<◌, ◌≤◌, true, Some, MatchBool};
 ghost use Rattle.board.specs.Squares.{OnBoard};
-ghost use Rattle.search.specs.Hunts.{Settled, Beyond, floor, since, done, comes};
+ghost use Rattle.search.specs.Hunts.{Settled, Beyond, near_to, floor, since, done, comes};
 ghost use Rattle.search.specs.Visits.{Met};
 
 use crate::walk::Visitor;
@@ -10,8 +10,8 @@ use board::measure::{Amount, Measure};
 use board::square::Square;
 use store::store::{Answer, Store};
 
-// A square of B that counts, and its far amount.
-#[derive(Clone, Copy, PartialEq, Eq)]
+// A square of B that counts, and its far amount. The smaller amount comes first, then the smaller number.
+#[derive(Clone, Copy, PartialEq, Eq, PartialOrd, Ord)]
 pub struct Partner {
     pub key: Amount,
     pub number: u32,
@@ -31,27 +31,28 @@ pub struct Hunt<'a, B, M> {
     pub best: Option<Partner>,
 }
 
-// Whether a square with this far amount and number comes before the best.
-fn improves(best: Option<Partner>, key: Amount, number: u32) -> bool
-    ensures { MatchBool result ((k q : ℕ) → Settled best k q → Settled (Some (record { key = key; number = number })) k q) (Settled best key number) }
-{
-    match best {
-        None => true,
-        Some(p) => key < p.key || (key == p.key && number < p.number),
-    }
-}
-
-// Whether no square this far comes before the best: at an equal amount one with a smaller number may.
-pub fn beyond(best: Option<Partner>, amount: Amount) -> bool
-    ensures { MatchBool result (Beyond best amount) (Beyond best amount → ⊥) }
-{
-    match best {
-        None => false,
-        Some(p) => p.key < amount,
-    }
-}
-
 impl<'a, B: Store, M: Measure> Hunt<'a, B, M> {
+    // The near amount of s.
+    pub fn near(&self, s: Square) -> Amount
+        ensures { result ≡ near_to B.Store.answers M.Measure.amount self.now.aim s.level s.number }
+    {
+        near(self.aim.measure, self.aim.of, s)
+    }
+
+    // Whether no square this far comes before the best: at an equal amount one with a smaller number may.
+    pub fn beyond(&self, amount: Amount) -> bool
+        ensures { MatchBool result (Beyond self.now.best amount) (Beyond self.now.best amount → ⊥) }
+    {
+        self.best.is_some_and(|found| found.key < amount)
+    }
+
+    // Whether p comes before the best.
+    fn improves(&self, p: Partner) -> bool
+        ensures { MatchBool result ((k q : ℕ) → Settled self.now.best k q → Settled (Some p) k q) (Settled self.now.best p.key p.number) }
+    {
+        self.best.is_none_or(|found| p < found)
+    }
+
     // Looks at a square of the level or above, and says whether to go on into its quarters.
     pub fn look(&mut self, s: Square) -> bool
         ensures same_aim { self.new.aim ≡ self.old.aim }
@@ -67,9 +68,12 @@ impl<'a, B: Store, M: Measure> Hunt<'a, B, M> {
         }
         if answer.counts() {
             let key = far(self.aim.measure, self.aim.of, s);
-            if improves(self.best, key, s.number) {
-                let number = s.number;
-                self.best = Some(Partner { key, number });
+            let partner = Partner {
+                key,
+                number: s.number,
+            };
+            if self.improves(partner) {
+                self.best = Some(partner);
             }
         }
         false
@@ -90,10 +94,6 @@ impl<'a, B: Store, M: Measure> Visitor for Hunt<'a, B, M> {
     }
 
     fn meet(&mut self, s: Square) -> bool {
-        let amount = near(self.aim.measure, self.aim.of, s);
-        if beyond(self.best, amount) {
-            return false;
-        }
-        self.look(s)
+        !self.beyond(self.near(s)) && self.look(s)
     }
 }

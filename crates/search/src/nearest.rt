@@ -1,5 +1,5 @@
 // The search for the nearest square, the most promising square first.
-ghost use Rattle.std.specs.Prelude.{◌≡◌, ◌<◌, ◌≤◌, [], ◌∷◌};
+ghost use Rattle.std.specs.Prelude.{◌≡◌, ◌<◌, ◌≤◌, [], ◌∷◌, MatchOption};
 ghost use Rattle.board.specs.Limits.{parts, edge, most};
 ghost use Rattle.board.specs.Squares.{OnBoard};
 ghost use Rattle.search.specs.Descents.{quarter};
@@ -9,32 +9,32 @@ ghost use Rattle.search.specs.Offers.{Offered};
 ghost use Rattle.search.specs.Piles.{piled};
 ghost use Rattle.search.specs.WaitingLists.{waiting, room};
 
-use crate::hunt::{Aim, Hunt, beyond};
+use crate::hunt::{Aim, Hunt, Partner};
 use crate::neighbour::Neighbour;
 use crate::waiting::WaitingList;
 use crate::walk::walk;
-use board::amounts::near;
 use board::measure::{Amount, Measure};
 use board::span::EDGE;
 use board::square::{PARTS, Square, TOP};
 use store::store::Store;
 
 // Looks at s; what is left to be looked into waits, or where no place is free is walked in depth.
+// The hunt and the list go side by side: a struct over both would hold the list as a loan of a loan.
 fn offer<B: Store, M: Measure>(hunt: &mut Hunt<B, M>, list: &mut WaitingList<Neighbour>, s: Square)
     requires board { OnBoard s.level s.number }
     requires above { hunt.old.aim.of.level ≤ s.level }
     ensures hunted { Hunted B.Store.answers M.Measure.amount hunt.old hunt.new }
     ensures offered { Offered hunt.old.aim.of.level (near_to B.Store.answers M.Measure.amount hunt.old.aim) (done B.Store.answers M.Measure.amount hunt.new) (s ∷ []) list.old list.new }
 {
-    let amount = near(hunt.aim.measure, hunt.aim.of, s);
-    if beyond(hunt.best, amount) {
+    let amount = hunt.near(s);
+    if hunt.beyond(amount) {
         return;
     }
-    if hunt.look(s) {
-        let entry = Neighbour { amount, square: s };
-        if !list.add(entry) {
-            walk(hunt, s);
-        }
+    if !hunt.look(s) {
+        return;
+    }
+    if !list.add(Neighbour { amount, square: s }) {
+        walk(hunt, s);
     }
 }
 
@@ -52,11 +52,14 @@ fn spread<B: Store, M: Measure>(hunt: &mut Hunt<B, M>, list: &mut WaitingList<Ne
     }
 }
 
-// The amount of the greatest offset.
-fn greatest<M: Measure>(m: &M) -> Amount
-    ensures { result ≡ M.Measure.amount m.now edge edge }
+// What is answered where this was found: its amount and number, and else the amount of the greatest offset, and 0.
+fn outcome<M: Measure>(m: &M, best: Option<Partner>) -> (Amount, u32)
+    ensures { MatchOption best ((result.0 ≡ M.Measure.amount m.now edge edge) × (result.1 ≡ 0)) (λ p. (result.0 ≡ p.key) × (result.1 ≡ p.number)) }
 {
-    m.amount(EDGE as u16, EDGE as u16)
+    best.map_or(
+        (m.amount(EDGE as u16, EDGE as u16), 0),
+        |p| (p.key, p.number),
+    )
 }
 
 // The key and the partner of a square: of the squares of its level that B says hold a cell, the smallest far amount to it, and the number of the first that has it. Where there is none: the amount of the greatest offset, and 0.
@@ -76,7 +79,7 @@ pub fn nearest<'a, B: Store, M: Measure>(
 {
     neighbours.clear();
     if of.level > TOP {
-        return (greatest(m), 0);
+        return outcome(m, None);
     }
     let mut hunt = Hunt {
         aim: Aim {
@@ -86,27 +89,18 @@ pub fn nearest<'a, B: Store, M: Measure>(
         },
         best: None,
     };
-    let board = Square {
-        level: TOP,
-        number: 0,
-    };
-    offer(&mut hunt, neighbours, board);
+    offer(&mut hunt, neighbours, Square::BOARD);
     while let Some(next) = neighbours.take() {
-        if beyond(hunt.best, next.amount) {
+        if hunt.beyond(next.amount) {
             neighbours.clear();
         } else {
             spread(&mut hunt, neighbours, next.square);
         }
     }
-    match hunt.best {
-        None => (greatest(m), 0),
-        Some(p) => (p.key, p.number),
-    }
+    outcome(m, hunt.best)
 }
 
 // What keys say of distances, for every store and measure.
-pub fn keys_are_bounds<B: Store, M: Measure>(_b: &B, _m: &M) -> u8
+pub fn keys_are_bounds<B: Store, M: Measure>(_b: &B, _m: &M)
     ensures laws { KeyLaws (M.Measure.amount _m.now) (B.Store.answers _b.now) }
-{
-    0
-}
+{}

@@ -2,8 +2,7 @@
 ghost use Rattle.std.specs.Prelude.{◌≡◌, ℕ, ◌<◌, true, false};
 ghost use Rattle.search.specs.Visits.{Reached, Met};
 
-use crate::stack::Stack;
-use crate::stack::moves::open;
+use crate::stack::{Stack, open};
 use board::square::Square;
 
 // What a walk does with the squares that it meets.
@@ -38,7 +37,8 @@ pub fn walk<V: Visitor>(visitor: &mut V, s: Square)
     if s.level < visitor.floor() {
         return;
     }
-    let mut stack = Stack::of(s);
+    let mut stack = Stack::new();
+    stack.push(s);
     while let Some(t) = stack.pop() {
         if visitor.meet(t) {
             open(&mut stack, t);

@@ -1,10 +1,12 @@
 // What a key costs: how many squares of B the search asks about, and how many it puts on its list, on films of three kinds and two sizes.
 #![tactic(auto)]
 
-use anyhow::anyhow;
 use board::cell::Cell;
 use board::measure::Squared;
+use board::refusal::Refusal;
 use board::square::{Square, TOP};
+use samples::dice::Dice;
+use samples::lists::in_order;
 use search::nearest::nearest;
 use search::neighbour::Neighbour;
 use search::waiting::WaitingList;
@@ -40,32 +42,9 @@ impl<S: Store> Store for Counted<S> {
     }
 }
 
-// A fixed generator.
-#[derive(Clone, Copy)]
-struct Dice {
-    state: u64,
-}
-
-impl Dice {
-    fn roll(&mut self) -> u32 {
-        self.state = self
-            .state
-            .wrapping_mul(6364136223846793005)
-            .wrapping_add(1442695040888963407);
-        (self.state >> 32) as u32
-    }
-
-    // Below 2^16.
-    fn coordinate(&mut self) -> u16 {
-        (self.roll() >> 16) as u16
-    }
-}
-
-#[derive(Clone, Copy)]
-enum Film {
-    Line,
-    Clusters,
-    Scattered,
+// Below 2^16, from the generator.
+fn coordinate(dice: &mut Dice) -> u16 {
+    (dice.roll() >> 16) as u16
 }
 
 // The cell number i of a line along two rows.
@@ -82,58 +61,43 @@ fn in_cluster(dice: &mut Dice) -> Cell {
     let mut centre = Dice {
         state: place as u64,
     };
-    let x = centre.coordinate();
-    let y = centre.coordinate();
-    let dx = (dice.coordinate() >> 7) + (dice.coordinate() >> 7);
-    let dy = (dice.coordinate() >> 7) + (dice.coordinate() >> 7);
+    let x = coordinate(&mut centre);
+    let y = coordinate(&mut centre);
+    let dx = (coordinate(dice) >> 7) + (coordinate(dice) >> 7);
+    let dy = (coordinate(dice) >> 7) + (coordinate(dice) >> 7);
     Cell {
         x: x.wrapping_add(dx),
         y: y.wrapping_add(dy),
     }
 }
 
-fn codes_of(heap: Global, film: Film, count: u32) -> Result<Vec<u32>, AllocError> {
-    let mut dice = Dice { state: 1 };
-    let mut codes = Vec::new(heap);
-    for i in 0..count {
-        let code = match film {
-            Film::Line => on_line(i).code(),
-            Film::Clusters => in_cluster(&mut dice).code(),
-            Film::Scattered => dice.roll(),
-        };
-        codes.push(code)?;
-    }
-    codes.sort()?;
-    codes.dedup();
-    Ok(codes)
-}
-
 // Squares of one level, all over the board.
 fn all_over(heap: Global, level: u8) -> Result<Vec<Square>, AllocError> {
     let mut dice = Dice { state: 2 };
-    let mut squares = Vec::new(heap);
-    for _ in 0..KEYS {
-        let number = dice.roll() >> 2 * level.min(TOP - 1);
-        squares.push(Square { level, number })?;
+    let squares = (0..KEYS).map(|_| Square {
+        level,
+        number: dice.roll() >> 2 * level.min(TOP - 1),
+    });
+    squares.collect(heap)
+}
+
+// The cell that lies one to the east and one to the north.
+fn northeast(code: u32) -> Square {
+    let cell = Cell::from_code(code);
+    let other = Cell {
+        x: cell.x.saturating_add(1),
+        y: cell.y.saturating_add(1),
+    };
+    Square {
+        level: 0,
+        number: other.code(),
     }
-    Ok(squares)
 }
 
 // Cells that lie one to the east and one to the north of a cell of the film.
 fn beside(heap: Global, codes: &[u32]) -> Result<Vec<Square>, AllocError> {
-    let mut squares = Vec::new(heap);
-    for code in codes.iter().copied().take(KEYS as usize) {
-        let cell = Cell::from_code(code);
-        let other = Cell {
-            x: cell.x.saturating_add(1),
-            y: cell.y.saturating_add(1),
-        };
-        squares.push(Square {
-            level: 0,
-            number: other.code(),
-        })?;
-    }
-    Ok(squares)
+    let codes = codes.iter().copied().take(KEYS as usize);
+    codes.map(|code| northeast(code)).collect(heap)
 }
 
 // The cost of the keys of some squares of one level.
@@ -150,14 +114,7 @@ fn show_cost(
         queries: Counter::new(0),
         listed: Counter::new(0),
     };
-    let blank = Neighbour {
-        amount: 0,
-        square: Square {
-            level: 0,
-            number: 0,
-        },
-    };
-    let mut places = [blank; 2048];
+    let mut places = [Neighbour::default(); 2048];
     let mut neighbours = WaitingList::new(&mut places);
     let mut most: u64 = 0;
     for of in squares {
@@ -171,31 +128,34 @@ fn show_cost(
     Ok(())
 }
 
-fn show_film(rt: &HostRuntime, name: &str, film: Film, count: u32) -> anyhow::Result<()> {
+// What a film of so many cells costs; the rule makes its codes, by a generator that begins anew, or by their number.
+fn show_film<F: Fn(&mut Dice, u32) -> u32>(
+    rt: &HostRuntime,
+    name: &str,
+    count: u32,
+    code: F,
+) -> anyhow::Result<()>
+    requires { F.IsAlwaysCallable code }
+{
     println!(rt; "{name} of {count} cells")?;
-    let codes = codes_of(rt.alloc(), film, count)?;
-    let mut list = CodeList::empty();
-    match list.open(codes.as_slice()) {
-        Ok(()) => {}
-        Err(_) => return Err(anyhow!("a list is refused")),
-    }
+    let mut dice = Dice { state: 1 };
+    let codes = in_order((0..count).map(|i| code(&mut dice, i)).collect(rt.alloc())?);
+    let list = CodeList::try_from(codes.as_slice()).map_err(|fault| fault.numbered())?;
     for level in [0, 4, 8, 12] {
         let squares = all_over(rt.alloc(), level)?;
         show_cost(rt, "level", list, level, squares.as_slice())?;
     }
     let squares = beside(rt.alloc(), codes.as_slice())?;
-    show_cost(rt, "beside the film, level", list, 0, squares.as_slice())?;
-    Ok(())
+    show_cost(rt, "beside the film, level", list, 0, squares.as_slice())
 }
 
 fn run(rt: &HostRuntime) -> anyhow::Result<()> {
-    show_film(rt, "a line", Film::Line, 10_000)?;
-    show_film(rt, "a line", Film::Line, 100_000)?;
-    show_film(rt, "clusters", Film::Clusters, 10_000)?;
-    show_film(rt, "clusters", Film::Clusters, 100_000)?;
-    show_film(rt, "scattered", Film::Scattered, 10_000)?;
-    show_film(rt, "scattered", Film::Scattered, 100_000)?;
-    Ok(())
+    show_film(rt, "a line", 10_000, |_, i| on_line(i).code())?;
+    show_film(rt, "a line", 100_000, |_, i| on_line(i).code())?;
+    show_film(rt, "clusters", 10_000, |dice, _| in_cluster(dice).code())?;
+    show_film(rt, "clusters", 100_000, |dice, _| in_cluster(dice).code())?;
+    show_film(rt, "scattered", 10_000, |dice, _| dice.roll())?;
+    show_film(rt, "scattered", 100_000, |dice, _| dice.roll())
 }
 
 fn main(rt: HostRuntime) -> anyhow::Result<()> {

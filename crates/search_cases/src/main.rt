@@ -1,9 +1,10 @@
 // Keys and partners, first cells, walks and waiting lists, shown case by case: on the eight by eight cells of the southwest corner, and on cells far apart.
 #![tactic(auto)]
 
-use anyhow::anyhow;
 use board::cell::Cell;
+use board::finding::Finding;
 use board::measure::{Amount, Greater, Measure, Squared, Sum};
+use board::refusal::Refusal;
 use board::square::{Square, TOP};
 use search::first::first_cell;
 use search::nearest::nearest;
@@ -72,17 +73,14 @@ fn key_in<S: Store, M: Measure>(
 
 // The key and partner of a square, where lists of 1, 3, 4, 5 and 64 places agree on it.
 fn key_of<S: Store, M: Measure>(of: Square, store: &S, measure: &M) -> Option<(Amount, u32)> {
-    let (key, partner) = key_in(of, store, measure, &mut [entry(0, 0, 0); 64]);
-    let one = key_in(of, store, measure, &mut [entry(0, 0, 0); 1]);
-    let three = key_in(of, store, measure, &mut [entry(0, 0, 0); 3]);
-    let four = key_in(of, store, measure, &mut [entry(0, 0, 0); 4]);
-    let five = key_in(of, store, measure, &mut [entry(0, 0, 0); 5]);
-    for other in [one, three, four, five] {
-        if other.0 != key || other.1 != partner {
-            return None;
-        }
-    }
-    Some((key, partner))
+    let key = key_in(of, store, measure, &mut [Neighbour::default(); 64]);
+    let others = [
+        key_in(of, store, measure, &mut [Neighbour::default(); 1]),
+        key_in(of, store, measure, &mut [Neighbour::default(); 3]),
+        key_in(of, store, measure, &mut [Neighbour::default(); 4]),
+        key_in(of, store, measure, &mut [Neighbour::default(); 5]),
+    ];
+    others.iter().all(|other| *other == key).then_some(key)
 }
 
 fn show_key<S: Store, M: Measure>(
@@ -91,8 +89,7 @@ fn show_key<S: Store, M: Measure>(
     store: &S,
     measure: &M,
 ) -> anyhow::Result<()> {
-    let level = of.level;
-    let number = of.number;
+    let Square { level, number } = of;
     match key_of(of, store, measure) {
         Some((key, partner)) => println!(rt; "    {level} {number}: {key} {partner}")?,
         None => println!(rt; "    {level} {number}: the lists do not agree")?,
@@ -108,16 +105,13 @@ fn show_corner<S: Store, M: Measure>(
     measure: &M,
 ) -> anyhow::Result<()> {
     println!(rt; "  {name}")?;
-    let mut squares = CELLS;
     for level in 0..CORNER {
-        for number in 0..squares {
+        for number in 0..CELLS >> (2 * level) {
             show_key(rt, Square { level, number }, store, measure)?;
         }
-        squares = squares / 4;
     }
-    for level in CORNER..TOP + 2 {
-        let number = 0;
-        show_key(rt, Square { level, number }, store, measure)?;
+    for level in CORNER..=TOP + 1 {
+        show_key(rt, Square { level, number: 0 }, store, measure)?;
     }
     Ok(())
 }
@@ -131,25 +125,27 @@ fn show_wide<S: Store, M: Measure>(
 ) -> anyhow::Result<()> {
     println!(rt; "  {name}")?;
     for code in FROM {
-        let mut number = code;
-        for level in 0..TOP + 1 {
+        for level in 0..=TOP {
+            let number = code.checked_shr(2 * level as u32).unwrap_or(0);
             show_key(rt, Square { level, number }, store, measure)?;
-            number = number / 4;
         }
     }
     Ok(())
 }
 
-// Calls the roll of the cells that a walk meets.
-#[derive(Drop)]
-struct Roll<'a, S> {
-    store: &'a S,
-    met: u32,
-    last: Option<u32>,
-    rising: bool,
+// What is done with each cell that a walk meets.
+trait Each {
+    fn cell(&mut self, code: u32);
 }
 
-impl<'a, S: Store> Visitor for Roll<'a, S> {
+// A walk over the cells of a store.
+#[derive(Drop)]
+struct Cells<'a, S, E> {
+    store: &'a S,
+    each: E,
+}
+
+impl<'a, S: Store, E: Each> Visitor for Cells<'a, S, E> {
     ghost floor = { λ _. 0 };
 
     ghost since = { λ _. 0 };
@@ -169,33 +165,40 @@ impl<'a, S: Store> Visitor for Roll<'a, S> {
         if s.level > 0 {
             return true;
         }
-        if let Some(last) = self.last {
-            self.rising = self.rising && last < s.number;
-        }
-        self.last = Some(s.number);
-        self.met = self.met.saturating_add(1);
+        self.each.cell(s.number);
         false
+    }
+}
+
+// How many cells were met, and whether each came after the one before it.
+#[derive(Drop)]
+struct Roll {
+    met: u32,
+    last: Option<u32>,
+    rising: bool,
+}
+
+impl Each for Roll {
+    fn cell(&mut self, code: u32) {
+        self.rising = self.rising && self.last.is_none_or(|last| last < code);
+        self.last = Some(code);
+        self.met = self.met.saturating_add(1);
     }
 }
 
 fn show_cells<S: Store>(rt: &HostRuntime, store: &S) -> anyhow::Result<()> {
     match first_cell(store) {
-        Some(Cell { x, y }) => println!(rt; "  first cell: {x} {y}")?,
+        Some(cell) => println!(rt; "  first cell: {cell}")?,
         None => println!(rt; "  no cell")?,
     }
-    let mut roll = Roll {
-        store,
+    let roll = Roll {
         met: 0,
         last: None,
         rising: true,
     };
-    let board = Square {
-        level: TOP,
-        number: 0,
-    };
-    walk(&mut roll, board);
-    let met = roll.met;
-    let rising = roll.rising;
+    let mut cells = Cells { store, each: roll };
+    walk(&mut cells, Square::BOARD);
+    let Roll { met, rising, .. } = cells.each;
     println!(rt; "  a walk meets {met} cells, rising: {rising}")?;
     Ok(())
 }
@@ -209,92 +212,63 @@ fn show_store<S: Store>(rt: &HostRuntime, name: &str, store: &S) -> anyhow::Resu
     Ok(())
 }
 
-fn fill(list: &mut CodeList<'static>, codes: &'static [u32]) -> anyhow::Result<()> {
-    match list.open(codes) {
-        Ok(()) => Ok(()),
-        Err(_) => Err(anyhow!("no list")),
-    }
+fn list_of(codes: &'static [u32]) -> anyhow::Result<CodeList<'static>> {
+    Ok(CodeList::try_from(codes).map_err(|fault| fault.numbered())?)
 }
 
 fn rectangle(west: u16, south: u16, east: u16, north: u16) -> anyhow::Result<Rectangle> {
-    match Rectangle::new(west, south, east, north) {
-        Ok(rectangle) => Ok(rectangle),
-        Err(_) => Err(anyhow!("no rectangle")),
-    }
+    Ok(Rectangle::new(west, south, east, north).map_err(|fault| fault.numbered())?)
 }
 
-// Tries each cell of a film that a walk meets, and keeps the first of those that lie farthest from the drawing.
+// The first of the cells that lie farthest from a drawing, of those that were tried.
 #[derive(Drop)]
-struct Trial<'a, A, B, M> {
-    film: A,
-    drawing: B,
-    measure: M,
-    neighbours: WaitingList<'a, Neighbour>,
-    low: Amount,
-    pair: Option<(u32, u32)>,
+struct Farthest<'a, 'n, B, M> {
+    drawing: &'a B,
+    measure: &'a M,
+    neighbours: WaitingList<'n, Neighbour>,
+    found: Option<Finding>,
 }
 
-impl<'a, A: Store, B: Store, M: Measure> Visitor for Trial<'a, A, B, M> {
-    ghost floor = { λ _. 0 };
-
-    ghost since = { λ _. 0 };
-
-    ghost done = { λ _ _. Unit {0} };
-
-    ghost comes = { λ _ _. Unit {0} };
-
-    fn floor(&self) -> u8 {
-        0
-    }
-
-    fn meet(&mut self, s: Square) -> bool {
-        if self.film.query(s) == Answer::Empty {
-            return false;
+impl<B: Store, M: Measure> Each for Farthest<'_, '_, B, M> {
+    fn cell(&mut self, code: u32) {
+        let cell = Square {
+            level: 0,
+            number: code,
+        };
+        let (distance, partner) = nearest(cell, self.drawing, self.measure, &mut self.neighbours);
+        if self.found.is_none_or(|found| found.distance < distance) {
+            self.found = Some(Finding {
+                distance,
+                film: Cell::from_code(code),
+                drawing: Cell::from_code(partner),
+            });
         }
-        if s.level > 0 {
-            return true;
-        }
-        let (key, partner) = nearest(s, &self.drawing, &self.measure, &mut self.neighbours);
-        if self.pair.is_none() || self.low < key {
-            self.low = key;
-            self.pair = Some((s.number, partner));
-        }
-        false
     }
 }
 
 // How far one list strays from the other, and the pair that shows it.
-fn show_distance<A: Store + Drop, B: Store + Drop, M: Measure + Drop>(
+fn show_distance<'a, A: Store, B: Store, M: Measure>(
     rt: &HostRuntime,
     name: &str,
-    film: A,
-    drawing: B,
-    measure: M,
+    film: &A,
+    drawing: &'a B,
+    measure: &'a M,
 ) -> anyhow::Result<()> {
-    let mut places = [entry(0, 0, 0); 4];
-    let mut trial = Trial {
-        film,
+    let mut places = [Neighbour::default(); 4];
+    let farthest = Farthest {
         drawing,
         measure,
         neighbours: WaitingList::new(&mut places),
-        low: 0,
-        pair: None,
+        found: None,
     };
-    let board = Square {
-        level: TOP,
-        number: 0,
+    let mut cells = Cells {
+        store: film,
+        each: farthest,
     };
-    walk(&mut trial, board);
-    let low = trial.low;
-    match trial.pair {
+    walk(&mut cells, Square::BOARD);
+    match cells.each.found {
         None => println!(rt; "  {name}: no pair")?,
-        Some((film, drawing)) => {
-            let a = Cell::from_code(film);
-            let b = Cell::from_code(drawing);
-            let (x, y) = (a.x, a.y);
-            let (u, v) = (b.x, b.y);
-            println!(rt; "  {name}: {low} {x} {y} {u} {v}")?;
-        }
+        Some(found) => println!(rt; "  {name}: {found}")?,
     }
     Ok(())
 }
@@ -302,7 +276,7 @@ fn show_distance<A: Store + Drop, B: Store + Drop, M: Measure + Drop>(
 // Adds to a list of three places until it is full, and takes until it is empty.
 fn show_list(rt: &HostRuntime) -> anyhow::Result<()> {
     println!(rt; "a list of three places")?;
-    let mut places = [entry(0, 0, 0); 3];
+    let mut places = [Neighbour::default(); 3];
     let mut list = WaitingList::new(&mut places);
     for x in [
         entry(5, 1, 0),
@@ -316,9 +290,10 @@ fn show_list(rt: &HostRuntime) -> anyhow::Result<()> {
         println!(rt; "  added: {added}, waiting {waiting}, free {free}")?;
     }
     while let Some(x) = list.take() {
-        let amount = x.amount;
-        let level = x.square.level;
-        let number = x.square.number;
+        let Neighbour {
+            amount,
+            square: Square { level, number },
+        } = x;
         let waiting = list.len();
         println!(rt; "  taken: {amount} {level} {number}, waiting {waiting}")?;
     }
@@ -328,12 +303,9 @@ fn show_list(rt: &HostRuntime) -> anyhow::Result<()> {
 }
 
 fn run(rt: &HostRuntime) -> anyhow::Result<()> {
-    let mut list = CodeList::empty();
-    fill(&mut list, &CODES)?;
-    let mut others = CodeList::empty();
-    fill(&mut others, &OTHERS)?;
-    let mut wide = CodeList::empty();
-    fill(&mut wide, &WIDE)?;
+    let list = list_of(&CODES)?;
+    let others = list_of(&OTHERS)?;
+    let wide = list_of(&WIDE)?;
     let frame = rectangle(1, 1, 6, 5)?;
     let inner = rectangle(2, 0, 5, 3)?;
     show_list(rt)?;
@@ -342,15 +314,13 @@ fn run(rt: &HostRuntime) -> anyhow::Result<()> {
     show_store(rt, "window over a list", &Window::over(frame, list))?;
     let either = Either::of(others, Window::over(inner, list));
     show_store(rt, "either of a list and a window", &either)?;
-    let mut film = CodeList::empty();
-    fill(&mut film, &FILM)?;
-    let mut drawing = CodeList::empty();
-    fill(&mut drawing, &DRAWING)?;
+    let film = list_of(&FILM)?;
+    let drawing = list_of(&DRAWING)?;
     println!(rt; "a film and a drawing")?;
-    show_distance(rt, "square", film, drawing, Squared)?;
-    show_distance(rt, "sum", film, drawing, Sum)?;
-    show_distance(rt, "greater", film, drawing, Greater)?;
-    show_distance(rt, "square, turned", drawing, film, Squared)?;
+    show_distance(rt, "square", &film, &drawing, &Squared)?;
+    show_distance(rt, "sum", &film, &drawing, &Sum)?;
+    show_distance(rt, "greater", &film, &drawing, &Greater)?;
+    show_distance(rt, "square, turned", &drawing, &film, &Squared)?;
     println!(rt; "cells far apart")?;
     show_cells(rt, &wide)?;
     show_wide(rt, "square", &wide, &Squared)?;

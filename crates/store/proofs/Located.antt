@@ -1,5 +1,5 @@
 -- The tests of a query of a rectangle, and the place that they give.
-use Rattle.std.proofs.Common.{◌≡◌, ℕ, Bool, cond, ◌&&◌, sym, ◌∙◌, subst, ap₂}
+use Rattle.std.proofs.Common.{◌≡◌, ℕ, Bool, cond, refl, sym, ◌∙◌, subst}
 use Rattle.board.specs.Morton.{x_of, y_of}
 use Rattle.board.specs.Spans.{first, last}
 use Rattle.board.specs.Squares.{OnBoard}
@@ -9,14 +9,15 @@ use Rattle.store.specs.declared.rectangle.Rectangle.{Rectangle}
 use Rattle.store.specs.ExactFacts.{decides_on_board}
 use Rattle.store.specs.Places.{Placed}
 use Rattle.store.specs.PlaceFacts.{apart_from}
-use Rattle.store.specs.Rectangles.{Covers, meets, lies, both_axes, on_square, located}
+use Rattle.store.specs.Rectangles.{Covers, Ends, meets, lies, both_axes, on_square, located}
 use Rattle.store.specs.RectangleFacts.{placed}
 
--- the tests of the spans of the square n of level l are the tests of the square
-of_spans : (test : ℕ → ℕ → ℕ → ℕ → Bool) (l n : ℕ) (b r : Rectangle) → b.columns.first ≡ first l (x_of n) → b.columns.last ≡ last l (x_of n)
-    → b.rows.first ≡ first l (y_of n) → b.rows.last ≡ last l (y_of n) → both_axes test b r ≡ on_square test l n r
-of_spans test l n b r west east south north =
-    ap₂ (λ x y. x && y) (ap₂ (λ x y. test x y r.columns.first r.columns.last) west east) (ap₂ (λ x y. test x y r.rows.first r.rows.last) south north)
+-- the rectangle has the columns and rows of the square n of level l
+abbrev pub IsBlock : ℕ → ℕ → Rectangle → Type 0
+IsBlock l n = Ends (first l (x_of n)) (first l (y_of n)) (last l (x_of n)) (last l (y_of n))
+
+of_block : (test : ℕ → ℕ → ℕ → ℕ → Bool) (l n : ℕ) (b r : Rectangle) → IsBlock l n b → both_axes test b r ≡ on_square test l n r
+of_block test l n b r e = rw (e.west_end, e.east_end, e.south_end, e.north_end) refl
 
 module _ (r : Rectangle) (l n : ℕ) where
   -- the place q is the square's, and says so of its cells
@@ -36,9 +37,5 @@ module _ (r : Rectangle) (l n : ℕ) where
       rw (h, ← e, ← f)
 
   -- the two tests, m and i, of the block of cells of a square of the board
-  pub on_board_so : (block : Rectangle) → OnBoard l n → block.columns.first ≡ first l (x_of n) → block.columns.last ≡ last l (x_of n)
-      → block.rows.first ≡ first l (y_of n) → block.rows.last ≡ last l (y_of n)
-      → (m i : Bool) → m ≡ both_axes meets block r → i ≡ both_axes lies block r → Answered (cond m (cond i Within Across) Apart)
-  on_board_so block b west east south north m i e f =
-      answered _
-      (by_tests m i b (e ∙ of_spans meets l n block r west east south north) (f ∙ of_spans lies l n block r west east south north))
+  pub on_board_so : (block : Rectangle) → OnBoard l n → IsBlock l n block → (m i : Bool) → m ≡ both_axes meets block r → i ≡ both_axes lies block r → Answered (cond m (cond i Within Across) Apart)
+  on_board_so block b ends m i e f = answered _ (by_tests m i b (e ∙ of_block meets l n block r ends) (f ∙ of_block lies l n block r ends))

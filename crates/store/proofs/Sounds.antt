@@ -5,7 +5,7 @@ use Rattle.std.proofs.lemmas.Bool.{cases_Bool}
 use Rattle.std.proofs.lemmas.Bool.Decides.{not_from_Decides}
 use Rattle.board.specs.Limits.{top, parts}
 use Rattle.board.specs.Squares.{OnBoard, Inside}
-use Rattle.board.proofs.Boards.{four_positive}
+use Rattle.board.specs.SquareOrderFacts.{four_positive}
 use Rattle.store.specs.declared.store.Answer.{Answer}
 use Rattle.store.specs.declared.store.Answer.TheVariants.{Empty}
 use Rattle.store.specs.Stores.{Counts, Holds, StoreFacts}

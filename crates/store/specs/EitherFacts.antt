@@ -1,6 +1,6 @@
 -- What an either owes: proved once, for any two stores.
 use Rattle.std.specs.Prelude.{◌≡◌, ℕ, ◌+◌, ◌*◌, ◌⊎◌, refl}
-use Rattle.std.proofs.Common.{inl, inr, ⊎_elim, ap₂, arith}
+use Rattle.std.proofs.Common.{inl, inr, ⊎_elim, ap₂}
 use Rattle.std.proofs.lemmas.Bool.{false≢true}
 use Rattle.board.specs.Limits.{parts}
 use Rattle.store.specs.declared.store.Answer.{Answer}
@@ -36,14 +36,14 @@ either_counts Unknown Unknown y = inl y
 
 both_empty : (a b : Answer) → joined_at a b ≡ Empty → (a ≡ Empty) × (b ≡ Empty)
 both_empty Empty b e = (refl, e)
-both_empty Occupied b e = absurd (let z : ◌≡◌ {A = ℕ} 0 1 = cc in omega arith)
-both_empty Unknown Empty e = absurd (let z : ◌≡◌ {A = ℕ} 0 1 = cc in omega arith)
-both_empty Unknown Occupied e = absurd (let z : ◌≡◌ {A = ℕ} 0 1 = cc in omega arith)
-both_empty Unknown Unknown e = absurd (let z : ◌≡◌ {A = ℕ} 0 1 = cc in omega arith)
+both_empty Occupied b e = cc
+both_empty Unknown Empty e = cc
+both_empty Unknown Occupied e = cc
+both_empty Unknown Unknown e = cc
 
 one_unknown : (a b : Answer) → joined_at a b ≡ Unknown → (a ≡ Unknown) ⊎ (b ≡ Unknown)
 one_unknown Empty b e = inr e
-one_unknown Occupied b e = absurd (let z : ◌≡◌ {A = ℕ} 0 1 = cc in omega arith)
+one_unknown Occupied b e = cc
 one_unknown Unknown b e = inl refl
 
 else_unknown : (a b : Answer) → (Counts a → ⊥) → (Counts b → ⊥) → ((a ≡ Empty) × (b ≡ Empty) → ⊥) → joined_at a b ≡ Unknown

@@ -1,9 +1,10 @@
 -- What an exact store owes, proved once for any set of cells and any list of codes.
-use Rattle.std.specs.Prelude.{◌≡◌, ℕ, zero, suc, ◌+◌, ◌-◌, ◌*◌, ◌/◌, ◌%◌, ◌^◌, ◌<◌, Bool, true, false, cond, ◌&&◌, ◌⊎◌, List, [], ◌∷◌, length, Decides, ◌==◌, ◌≢◌, nat_le, nat_lt, slice_index, refl}
-use Rattle.std.proofs.Common.{inl, inr, ⊎_elim, sym, ap, subst, ◌∙◌, div-one, pow-suc, add-one, arith}
+use Rattle.std.specs.Prelude.{◌≡◌, ℕ, suc, ◌+◌, ◌-◌, ◌*◌, ◌/◌, ◌%◌, ◌^◌, ◌<◌, Bool, true, false, cond, ◌&&◌, ◌⊎◌, List, Decides, ◌==◌, ◌≢◌, nat_le, nat_lt, refl}
+use Rattle.std.proofs.Common.{inl, inr, ⊎_elim, sym, ap, subst, ◌∙◌, get_or, div-one, pow-suc, add-one, arith}
 use Rattle.std.proofs.Math.Nat.{div-div-eq-div-mul}
-use Rattle.std.proofs.lemmas.Bool.{true≢false, leb-true, le-leb, eqb-true, eq-eqb, or_cases, or_left, or_right, and_parts, and_from, and_left, cases_Bool, cond-true, cond-false}
-use Rattle.std.proofs.lemmas.Bool.Decides.{Decides-and, Decides-ltb}
+use Rattle.std.proofs.lemmas.Bool.{true≢false, leb-true, le-leb, and_parts, and_from, and_left, cases_Bool, cond-true, cond-false}
+use Rattle.std.proofs.lemmas.Bool.Decides.{Decides-and, Decides-ltb, Decides-eqb, Decides-like, Decides-by_or}
+use Rattle.std.proofs.lemmas.List.{get_or_default}
 use Rattle.board.specs.Limits.{top, parts}
 use Rattle.board.specs.Lists.{Has}
 use Rattle.board.specs.Squares.{OnBoard, Inside}
@@ -97,8 +98,8 @@ counts_cond true k = refl
 counts_cond false k = k
 
 sure_cond : (b : Bool) → cond b Occupied Empty ≢ Unknown
-sure_cond true e = let z : ◌≡◌ {A = ℕ} 0 1 = cc in omega arith
-sure_cond false e = let z : ◌≡◌ {A = ℕ} 0 1 = cc in omega arith
+sure_cond true e = cc
+sure_cond false e = cc
 
 -- a test that passes where the square shares a cell with the set makes an exact table
 module _ (P : ℕ → Type 0) (test : ℕ → ℕ → Bool) (d : (l n : ℕ) → OnBoard l n → Decides (test l n) (Shares P l n)) where
@@ -122,21 +123,13 @@ tested_on test l n b = ap (λ x. cond (x && test l n) Occupied Empty) ((decides_
 
 -- ---- lists of codes
 
-occupied-has : (cs : List ℕ) (l n : ℕ) → occupied cs l n ≡ true → Shares (Has cs) l n
-unfolding occupied
-occupied-has [] l n e = absurd (true≢false (sym e))
-occupied-has (c ∷ cs) l n e =
-    ⊎_elim (λ h. (c, (0, omega arith, refl), eqb-true (c / parts ^ l) n h))
-    (λ h. let r = occupied-has cs l n h in (r.0, (suc r.1.0, omega arith, r.1.2), r.2)) (or_cases (c / parts ^ l == n) (occupied cs l n) e)
-
-has-occupied : (cs : List ℕ) (l n c k : ℕ) → k < length cs → slice_index cs k ≡ c → Inside l n c → occupied cs l n ≡ true
-unfolding occupied
-has-occupied [] l n c k h e i = absurd (omega arith)
-has-occupied (x ∷ cs) l n c zero h e i = or_left (x / parts ^ l == n) (occupied cs l n) (eq-eqb (x / parts ^ l) n (ap (λ y. y / parts ^ l) e ∙ i))
-has-occupied (x ∷ cs) l n c (suc k) h e i = or_right (x / parts ^ l == n) (occupied cs l n) (has-occupied cs l n c k (omega arith) e i)
-
 pub decides_occupied : (cs : List ℕ) (l n : ℕ) → Decides (occupied cs l n) (Shares (Has cs) l n)
-decides_occupied cs l n = (occupied-has cs l n, λ s. has-occupied cs l n s.0 s.1.0 s.1.1 s.1.2 s.2)
+unfolding occupied
+decides_occupied cs l n =
+    Decides-like (occupied cs l n)
+    (λ s. (get_or cs s.0 0, (s.0, s.1, refl), s.2 0))
+    (λ s. (s.1.0, s.1.1, λ d. subst (Inside l n) (sym s.1.2 ∙ get_or_default cs s.1.0 0 d s.1.1) s.2))
+    (Decides-by_or (λ c. c / parts ^ l == n) (Inside l n) (λ xs. occupied xs l n) (λ c. Decides-eqb (c / parts ^ l) n) refl (λ _ _. refl) cs)
 
 pub exactly_list : (cs : List ℕ) → Exactly (Has cs) (exact cs)
 exactly_list cs = exactly_tested (Has cs) (occupied cs) (λ l n _. decides_occupied cs l n)

@@ -1,6 +1,5 @@
 -- What places say, for any set of cells.
 use Rattle.std.specs.Prelude.{◌≡◌, ℕ, ◌*◌, ◌^◌, ◌≢◌, refl}
-use Rattle.std.proofs.Common.{arith}
 use Rattle.std.proofs.lemmas.Bool.{false≢true}
 use Rattle.board.specs.Limits.{parts}
 use Rattle.board.specs.Squares.{OnBoard, Inside}
@@ -43,9 +42,9 @@ module _ (P : ℕ → Type 0) (l n : ℕ) where
   shown_at Within h y = (h.0, some_cell h.1)
 
 sure_at : (q : Place) → filled_at q ≢ Unknown
-sure_at Apart e = let z : ◌≡◌ {A = ℕ} 0 1 = cc in omega arith
-sure_at Across e = let z : ◌≡◌ {A = ℕ} 0 1 = cc in omega arith
-sure_at Within e = let z : ◌≡◌ {A = ℕ} 0 1 = cc in omega arith
+sure_at Apart e = cc
+sure_at Across e = cc
+sure_at Within e = cc
 
 -- a store that goes by places is exact
 pub exactly_placed : (P : ℕ → Type 0) (p : ℕ → ℕ → Place) → ((l n : ℕ) → Placed P l n (p l n)) → Exactly P (λ l n. filled_at (p l n))

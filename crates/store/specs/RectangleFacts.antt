@@ -2,7 +2,8 @@
 use Rattle.std.specs.Prelude.{◌≡◌, ℕ, ◌≤◌, max, true, false, ◌&&◌, nat_le}
 use Rattle.std.proofs.Math.Logic.{inl, inr}
 use Rattle.std.proofs.Common.{⊎_elim, sym, subst, ◌∙◌, arith}
-use Rattle.std.proofs.lemmas.Bool.{true≢false, leb-true, le-leb, leb-false, and_parts, and_from, and_cases, cases_Bool}
+use Rattle.std.proofs.lemmas.Bool.{true≢false, leb-false, and_parts, and_from, and_cases, cases_Bool}
+use Rattle.std.proofs.lemmas.Bool.Decides.{nat_tests}
 use Rattle.board.specs.Morton.{x_of, y_of, code}
 use Rattle.board.specs.Spans.{first, last}
 use Rattle.board.specs.Squares.{OnBoard, Inside}
@@ -21,20 +22,14 @@ use Rattle.store.specs.Rectangles.{Covers, meets, lies, on_square, located, fill
 -- two spans that meet share a value
 pub shared_value : (a b c d : ℕ) → a ≤ b → c ≤ d → meets a b c d ≡ true → (v : ℕ) × (a ≤ v) × (v ≤ b) × (c ≤ v) × (v ≤ d)
 shared_value a b c d h k m =
-    let p = and_parts (nat_le a d) (nat_le c b) m in
-    let x = leb-true a d p.0 in
-    let y = leb-true c b p.1 in
+    let p : (a ≤ d) × (c ≤ b) = grind (arith, nat_tests) in
     (max a c, omega arith, omega arith, omega arith, omega arith)
 
 pub shared_meets : (a b c d v : ℕ) → a ≤ v → v ≤ b → c ≤ v → v ≤ d → meets a b c d ≡ true
-shared_meets a b c d v p q r s = and_from (nat_le a d) (nat_le c b) (le-leb a d (omega arith)) (le-leb c b (omega arith))
+shared_meets a b c d v p q r s = grind (arith, nat_tests)
 
 pub lies_within : (a b c d v : ℕ) → lies a b c d ≡ true → a ≤ v → v ≤ b → (c ≤ v) × (v ≤ d)
-lies_within a b c d v m p q =
-    let h = and_parts (nat_le c a) (nat_le b d) m in
-    let x = leb-true c a h.0 in
-    let y = leb-true b d h.1 in
-    (omega arith, omega arith)
+lies_within a b c d v m p q = grind (arith, nat_tests)
 
 -- a span that does not lie in another has a value outside it
 pub value_outside : (a b c d : ℕ) → a ≤ b → lies a b c d ≡ false → (v : ℕ) × (a ≤ v) × (v ≤ b) × (((c ≤ v) × (v ≤ d)) → ⊥)

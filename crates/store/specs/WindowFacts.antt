@@ -27,8 +27,8 @@ seen_empty Within a e = e
 
 blurred_empty : (a : Answer) → blurred a ≡ Empty → a ≡ Empty
 blurred_empty Empty e = refl
-blurred_empty Occupied e = absurd (let z : ◌≡◌ {A = ℕ} 0 1 = cc in omega arith)
-blurred_empty Unknown e = absurd (let z : ◌≡◌ {A = ℕ} 0 1 = cc in omega arith)
+blurred_empty Occupied e = cc
+blurred_empty Unknown e = cc
 
 empty_seen : (q : Place) (a : Answer) → seen_at q a ≡ Empty → (q ≡ Apart) ⊎ (a ≡ Empty)
 empty_seen Apart a e = inl refl
@@ -58,7 +58,7 @@ module _ (P : ℕ → Type 0) (p : ℕ → ℕ → Place) (placed : (l n : ℕ) 
 
   -- the edge goes through no cell
   cell_seen : (n : ℕ) (q : Place) → Placed P 0 n q → seen_at q (t 0 n) ≢ Unknown
-  cell_seen n Apart h e = let z : ◌≡◌ {A = ℕ} 0 1 = cc in omega arith
+  cell_seen n Apart h e = cc
   cell_seen n Across h e =
       h.2.1 (subst P (cell_inside n h.1.0 h.1.2 ∙ sym (cell_inside n h.2.0 h.2.2)) h.1.1)
   cell_seen n Within h e = f.cell_known n e

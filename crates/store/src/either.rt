@@ -33,7 +33,7 @@ fn join(first: Answer, second: Answer) -> Answer
     match (first, second) {
         (Answer::Occupied, _) | (_, Answer::Occupied) => Answer::Occupied,
         (Answer::Empty, Answer::Empty) => Answer::Empty,
-        _ => Answer::Unknown,
+        (Answer::Empty | Answer::Unknown, Answer::Empty | Answer::Unknown) => Answer::Unknown,
     }
 }
 

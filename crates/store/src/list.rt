@@ -1,5 +1,5 @@
 // Lists of codes as stores.
-ghost use Rattle.std.specs.Prelude.{◌≡◌, ℕ, ◌<◌, ◌≤◌, [], length, MatchResult, slice_index};
+ghost use Rattle.std.specs.Prelude.{◌≡◌, ℕ, [], length, MatchResult};
 ghost use Rattle.board.specs.Lists.{Has, ListRefused, Rises, Rising, list_numbered};
 ghost use Rattle.store.specs.Exact.{Exactly, HoldsSet, exact};
 ghost use Rattle.store.specs.ExactFacts.{exact_facts};
@@ -31,22 +31,20 @@ impl<'a> CodeList<'a> {
         ensures exact { Exactly (Has self.new.codes.now) (exact self.new.codes.now) }
         ensures holds_its_codes { HoldsSet (Has self.new.codes.now) (exact self.new.codes.now) }
     {
-        check_list(codes)?;
-        self.codes = codes;
+        *self = CodeList::try_from(codes)?;
         Ok(())
     }
 }
 
-// The first place whose code is at least this one; the number of codes where there is none.
-fn place_of(codes: &[u32], code: u32) -> usize
-    requires { Rising codes.now (length codes.now) }
-    ensures within { result ≤ length codes.now }
-    ensures before { (k : ℕ) → k < result → slice_index codes.now k < code }
-    ensures after { (k : ℕ) → result ≤ k → k < length codes.now → code ≤ slice_index codes.now k }
-{
-    match codes.binary_search(&code) {
-        Ok(place) => place,
-        Err(place) => place,
+// The list of codes that rise and are not too many.
+impl<'a> TryFrom<&'a [u32]> for CodeList<'a> {
+    type Error = ListFault;
+
+    ghost try_from_gives = { λ codes r. MatchResult r (λ s. Rises codes.now × (s.codes.now ≡ codes.now)) (λ f. ListRefused codes.now (list_numbered f)) };
+
+    fn try_from(codes: &'a [u32]) -> Result<CodeList<'a>, ListFault> {
+        check_list(codes)?;
+        Ok(CodeList { codes })
     }
 }
 
@@ -60,9 +58,12 @@ impl Store for CodeList<'_> {
         let Some(first) = square.first_code() else {
             return Answer::Empty;
         };
-        let place = place_of(self.codes, first);
-        if place < self.codes.len()
-            && (self.codes[place] as u64) >> (2 * square.level) == square.number as u64
+        let place = self
+            .codes
+            .binary_search(&first)
+            .unwrap_or_else(|place| place);
+        if let Some(code) = self.codes.get(place)
+            && (*code as u64) >> (2 * square.level) == square.number as u64
         {
             Answer::Occupied
         } else {

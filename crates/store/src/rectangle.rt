@@ -1,6 +1,8 @@
 // Rectangles of cells, and where a square lies to one.
 ghost use Rattle.std.specs.Prelude.{◌≡◌, ℕ, ◌<◌, IfOk, IfErr, MatchResult};
 ghost use Rattle.board.specs.Limits.{codes, edge};
+ghost use Rattle.board.specs.Morton.{x_of, y_of};
+ghost use Rattle.board.specs.Spans.{first, last};
 ghost use Rattle.store.specs.Exact.{Exactly, HoldsSet};
 ghost use Rattle.store.specs.Places.{Placed};
 ghost use Rattle.store.specs.RectangleFacts.{rectangle_facts};
@@ -73,22 +75,9 @@ impl Rectangle {
         ensures exact { IfOk result (λ k. Exactly (Covers k) (filled k)) }
         ensures holds_its_cells { IfOk result (λ k. HoldsSet (Covers k) (filled k)) }
     {
-        if west > east {
-            return Err(RectangleFault::WestAboveEast);
-        }
-        if south > north {
-            return Err(RectangleFault::SouthAboveNorth);
-        }
-        Ok(Rectangle {
-            columns: Span {
-                first: west,
-                last: east,
-            },
-            rows: Span {
-                first: south,
-                last: north,
-            },
-        })
+        let columns = Span::new(west, east).ok_or(RectangleFault::WestAboveEast)?;
+        let rows = Span::new(south, north).ok_or(RectangleFault::SouthAboveNorth)?;
+        Ok(Rectangle { columns, rows })
     }
 
     // The whole board.
@@ -107,7 +96,18 @@ impl Rectangle {
         }
     }
 
+    // The cells of a square of the board.
+    fn block(square: Square) -> Rectangle
+        ensures { let l = square.level in let n = square.number in Ends (first l (x_of n)) (first l (y_of n)) (last l (x_of n)) (last l (y_of n)) result }
+    {
+        Rectangle {
+            columns: square.columns(),
+            rows: square.rows(),
+        }
+    }
+
     // Whether the two share a cell.
+    // It and the next are a line each; one function that took the test of the spans would have a longer contract than both.
     fn meets(self, other: Rectangle) -> bool
         ensures { result ≡ both_axes meets self other }
     {
@@ -129,10 +129,7 @@ impl Rectangle {
         if !square.on_board() {
             return Place::Apart;
         }
-        let block = Rectangle {
-            columns: square.columns(),
-            rows: square.rows(),
-        };
+        let block = Rectangle::block(square);
         if !block.meets(*self) {
             Place::Apart
         } else if block.lies_in(*self) {

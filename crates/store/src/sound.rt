@@ -24,12 +24,10 @@ pub fn holds<S: Store>(store: &S, cell: Cell) -> bool
 }
 
 // What the answers of any store say of the cells that it holds.
-pub fn stores_are_sound<S: Store>(_store: &S) -> u8
+pub fn stores_are_sound<S: Store>(_store: &S)
     ensures empty_holds_no_cell { EmptyHoldsNone (S.Store.answers _store.now) }
     ensures counted_holds_a_cell { CountedHoldsACell (S.Store.answers _store.now) }
     ensures holder_is_not_empty { HolderNotEmpty (S.Store.answers _store.now) }
     ensures held_is_on_the_board { HeldOnBoard (S.Store.answers _store.now) }
     ensures one_square_of_each_level { OneSquareOfEachLevel }
-{
-    0
-}
+{}

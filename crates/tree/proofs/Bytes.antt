@@ -1,10 +1,15 @@
 -- The bits of bytes, and how many are 1.
-use Rattle.std.proofs.Common.{◌≡◌, ℕ, zero, suc, ◌+◌, ◌-◌, ◌*◌, ◌/◌, ◌%◌, ◌^◌, ◌<◌, ◌≤◌, Bool, true, false, cond, eqb, List, [], ◌∷◌, length, get_or, take, sym, refl, ap, ◌∙◌, ap₂, add-zero, add_assoc, mod-lt, mod-eq_of_lt, add_comm, pow-suc, arith, pow_pos}
+use Rattle.std.proofs.Common.{◌≡◌, ℕ, zero, suc, ◌+◌, ◌-◌, ◌*◌, ◌/◌, ◌%◌, ◌^◌, ◌<◌, ◌≤◌, Bool, true, false, cond, eqb, ◌⊎◌, List, [], ◌∷◌, length, get_or, take, drop, sym, refl, ap, ◌∙◌, ap₂, add-zero, add_assoc, mod-lt, mod-eq_of_lt, add_comm, pow-suc, arith, pow_pos, inl, inr, length-drop}
 use native.Mathlib.Nat.{div-div-eq-div-mul, div-eq_of_lt, mod-one}
 use lib.Pow.{mod-pow-add}
 use lib.Count as count
+use Rattle.std.specs.Int.{from_le_bytes, w64}
+use Rattle.std.specs.List.{slice_range, sum_by}
+use Rattle.std.specs.Simd.{first_chunks}
+use Rattle.std.proofs.lemmas.List.{get_or-drop, get_or-take, get_or_past, length-take, length-take-le}
+use Rattle.std.proofs.lemmas.List.Sums.{sum_by-cons}
 use Rattle.std.proofs.lemmas.List.FromFn.{length-map-range_with_len, get_or-map-range_with_len, take-map-range_with_len, map-range_with_len_more}
-use Rattle.std.proofs.lemmas.Bool.{eqb-false}
+use Rattle.std.proofs.lemmas.Bool.{cases_lt, eqb-false}
 use Rattle.tree.specs.Bitmaps.{bit, bits, ones}
 use lib.Bits.{bit_and}
 use Rattle.std.proofs.lemmas.Nat.{one_shl, and_mask}
@@ -63,15 +68,15 @@ ones-part bytes k (suc r) h =
     ap (ones_before bytes) n ∙ more ∙ ap₂ (λ a b. a + b) ih here
     ∙ add_assoc (ones_before bytes (8 * k)) (count.ones (x % 2 ^ r)) (x / 2 ^ r % 2) ∙ ap (λ y. ones_before bytes (8 * k) + y) (sym (ones_digits_more x r))
 
-pub ones-byte : (bytes : List ℕ) (k : ℕ) → get_or bytes k 0 < 256 → ones_before bytes (8 * (k + 1)) ≡ ones_before bytes (8 * k) + count.ones (get_or bytes k 0)
+ones-byte : (bytes : List ℕ) (k : ℕ) → get_or bytes k 0 < 256 → ones_before bytes (8 * (k + 1)) ≡ ones_before bytes (8 * k) + count.ones (get_or bytes k 0)
 ones-byte bytes k h =
     let e : 8 * (k + 1) ≡ 8 * k + 8 = omega arith in
     ap (ones_before bytes) e ∙ ones-part bytes k 8 (omega arith) ∙ ap (λ x. ones_before bytes (8 * k) + count.ones x) (mod-eq_of_lt h)
 
--- the number of n bytes from byte at + k on, the first of them lowest
-abbrev pub number : List ℕ → ℕ → ℕ → ℕ → ℕ
-number bytes at k zero = 0
-number bytes at k (suc n) = get_or bytes (at + k) 0 + 256 * number bytes at (suc k) n
+-- the number of n bytes from byte k on, the first of them lowest
+abbrev number : List ℕ → ℕ → ℕ → ℕ
+number bytes k zero = 0
+number bytes k (suc n) = get_or bytes k 0 + 256 * number bytes (suc k) n
 
 -- a byte, and what stands above it, are counted apart
 ones_low : (low high : ℕ) → low < 256 → count.ones (low + 256 * high) ≡ count.ones low + count.ones high
@@ -79,22 +84,129 @@ ones_low low high h =
     let e : low + 256 * high ≡ high * 2 ^ 8 + low = omega arith in
     ap count.ones e ∙ count.ones_cat 8 high low h ∙ add_comm (count.ones high) (count.ones low)
 
+-- the bytes are numbers below 256
+abbrev pub Small : List ℕ → Type 0
+Small bytes = (j : ℕ) → get_or bytes j 0 < 256
+
 -- so the ones of that number are the ones of its bytes
-pub ones-number : (bytes : List ℕ) (at k n : ℕ) → ((j : ℕ) → get_or bytes j 0 < 256)
-    → ones_before bytes (8 * (at + k)) + count.ones (number bytes at k n) ≡ ones_before bytes (8 * (at + (k + n)))
-ones-number bytes at k zero small =
-    let e : 8 * (at + k) ≡ 8 * (at + (k + 0)) = omega arith in
+ones-number : (bytes : List ℕ) (k n : ℕ) → Small bytes → ones_before bytes (8 * k) + count.ones (number bytes k n) ≡ ones_before bytes (8 * (k + n))
+ones-number bytes k zero small =
+    let e : 8 * k ≡ 8 * (k + 0) = omega arith in
     omega (arith, ones-digit 0 (omega arith), ap (ones_before bytes) e)
-ones-number bytes at k (suc n) small =
-    let a : 8 * (at + suc k) ≡ 8 * (at + k + 1) = omega arith in
-    let b : 8 * (at + (suc k + n)) ≡ 8 * (at + (k + suc n)) = omega arith in
+ones-number bytes k (suc n) small =
+    let a : 8 * suc k ≡ 8 * (k + 1) = omega arith in
+    let b : 8 * (suc k + n) ≡ 8 * (k + suc n) = omega arith in
     omega (
       arith,
-      ones_low (get_or bytes (at + k) 0) (number bytes at (suc k) n) (small (at + k)),
-      ones-byte bytes (at + k) (small (at + k)),
-      ones-number bytes at (suc k) n small,
+      ones_low (get_or bytes k 0) (number bytes (suc k) n) (small k),
+      ones-byte bytes k (small k),
+      ones-number bytes (suc k) n small,
       ap (ones_before bytes) a,
       ap (ones_before bytes) b,
+    )
+
+-- so are those of a word
+ones-word : (bytes : List ℕ) → Small bytes → count.ones (from_le_bytes w64 bytes) ≡ ones_before bytes 64
+ones-word bytes small =
+    let e : from_le_bytes w64 bytes ≡ number bytes 0 8 = omega arith in
+    omega (arith, ap count.ones e, ones-number bytes 0 8 small)
+
+small-drop : (k : ℕ) (bytes : List ℕ) → Small bytes → Small (drop k bytes)
+small-drop k bytes small j = omega (arith, get_or-drop k bytes j 0, small (k + j))
+
+-- the first k bytes, and n bytes behind them
+ones-drop : (bytes : List ℕ) (k n : ℕ) → ones_before bytes (8 * k) + ones_before (drop k bytes) (8 * n) ≡ ones_before bytes (8 * (k + n))
+ones-drop bytes k zero = let e : 8 * k ≡ 8 * (k + 0) = omega arith in omega (arith, ap (ones_before bytes) e)
+ones-drop bytes k (suc n) =
+    let a : 8 * suc n ≡ 8 * n + 8 = omega arith in
+    let b : 8 * (k + suc n) ≡ 8 * (k + n) + 8 = omega arith in
+    omega (
+      arith,
+      ap (ones_before (drop k bytes)) a,
+      ap (ones_before bytes) b,
+      ones-drop bytes k n,
+      ones-part (drop k bytes) n 8 (omega arith),
+      ones-part bytes (k + n) 8 (omega arith),
+      ap (λ x. count.ones (x % 2 ^ 8)) (get_or-drop k bytes n 0),
+    )
+
+-- the first n of the first m bytes
+ones-take : (bytes : List ℕ) (m n : ℕ) → n ≤ m → ones_before (take m bytes) (8 * n) ≡ ones_before bytes (8 * n)
+ones-take bytes m zero h = refl
+ones-take bytes m (suc n) h =
+    let e : 8 * suc n ≡ 8 * n + 8 = omega arith in
+    omega (
+      arith,
+      ap (ones_before (take m bytes)) e,
+      ap (ones_before bytes) e,
+      ones-take bytes m n (omega arith),
+      ones-part (take m bytes) n 8 (omega arith),
+      ones-part bytes n 8 (omega arith),
+      ap (λ x. count.ones (x % 2 ^ 8)) (get_or-take m bytes n 0 (omega arith)),
+    )
+
+small-take : (m : ℕ) (bytes : List ℕ) → Small bytes → Small (take m bytes)
+small-take m bytes small j = go (cases_lt j m)
+  where
+    go : (j < m) ⊎ (m ≤ j) → get_or (take m bytes) j 0 < 256
+    go (inl h) = omega (arith, get_or-take m bytes j 0 h, small j)
+    go (inr h) = omega (arith, get_or_past (take m bytes) j 0 (omega (arith, length-take m bytes)))
+
+-- a part of the bytes
+pub ones-range : (bytes : List ℕ) (a b : ℕ) → a ≤ b → b ≤ length bytes
+    → ones_before bytes (8 * a) + ones_before (slice_range bytes a b) (8 * length (slice_range bytes a b)) ≡ ones_before bytes (8 * b)
+ones-range bytes a b h k =
+    let l : length (slice_range bytes a b) ≡ b - a = length-take-le (b - a) (drop a bytes) (omega (arith, length-drop a bytes)) in
+    let e : 8 * (a + (b - a)) ≡ 8 * b = omega arith in
+    omega (
+      arith,
+      ap (λ n. ones_before (slice_range bytes a b) (8 * n)) l,
+      ones-take (drop a bytes) (b - a) (b - a) (omega arith),
+      ones-drop bytes a (b - a),
+      ap (ones_before bytes) e,
+    )
+
+-- the sum over words, and the sum over bytes
+ones-words : (n : ℕ) (bytes : List ℕ) → Small bytes → sum_by (λ w. count.ones (from_le_bytes w64 w)) (first_chunks 8 n bytes) ≡ ones_before bytes (8 * (8 * n))
+ones-words zero bytes small = refl
+ones-words (suc n) bytes small =
+    let e : 8 * (8 + 8 * n) ≡ 8 * (8 * suc n) = omega arith in
+    omega (
+      arith,
+      sum_by-cons (λ w. count.ones (from_le_bytes w64 w)) (take 8 bytes) (first_chunks 8 n (drop 8 bytes)),
+      ones-word (take 8 bytes) (small-take 8 bytes small),
+      ones-take bytes 8 8 (omega arith),
+      ones-words n (drop 8 bytes) (small-drop 8 bytes small),
+      ones-drop bytes 8 (8 * n),
+      ap (ones_before bytes) e,
+    )
+
+ones-each : (bytes : List ℕ) → Small bytes → sum_by count.ones bytes ≡ ones_before bytes (8 * length bytes)
+ones-each [] small = refl
+ones-each (x ∷ xs) small =
+    let e : 8 * (1 + length xs) ≡ 8 * length (x ∷ xs) = omega arith in
+    omega (
+      arith,
+      sum_by-cons count.ones x xs,
+      ones-byte (x ∷ xs) 0 (small 0),
+      ones-each xs (small-drop 1 (x ∷ xs) small),
+      ones-drop (x ∷ xs) 1 (length xs),
+      ap (ones_before (x ∷ xs)) e,
+    )
+
+-- by words, and then by the bytes left
+pub ones-split : (bytes : List ℕ) (n : ℕ) → 8 * n ≤ length bytes → Small bytes
+    → sum_by (λ w. count.ones (from_le_bytes w64 w)) (first_chunks 8 n bytes) + sum_by count.ones (drop (n * 8) bytes) ≡ ones_before bytes (8 * length bytes)
+ones-split bytes n h small =
+    let e : 8 * (8 * n + length (drop (8 * n) bytes)) ≡ 8 * length bytes = omega (arith, length-drop (8 * n) bytes) in
+    let d : n * 8 ≡ 8 * n = omega arith in
+    omega (
+      arith,
+      ap (λ k. sum_by count.ones (drop k bytes)) d,
+      ones-words n bytes small,
+      ones-each (drop (8 * n) bytes) (small-drop (8 * n) bytes small),
+      ones-drop bytes (8 * n) (length (drop (8 * n) bytes)),
+      ap (ones_before bytes) e,
     )
 
 ones_few : (bs : List Bool) → ones bs ≤ length bs
@@ -116,9 +228,6 @@ ones_before_le_mono bytes a b h = let e : a + (b - a) ≡ b = omega arith in ome
 
 -- the byte that the first n bits end in
 module _ (bytes : List ℕ) (n : ℕ) where
-  pub part_none : n % 8 ≡ 0 → ones_before bytes (8 * (n / 8)) + 0 ≡ ones_before bytes n
-  part_none z = let e : 8 * (n / 8) ≡ n = omega arith in add-zero (ones_before bytes (8 * (n / 8))) ∙ ap (ones_before bytes) e
-
   pub part_some : ones_before bytes (8 * (n / 8)) + count.ones (bit_and (get_or bytes (n / 8) 0) ((1 * 2 ^ (n % 8)) % 256 - 1)) ≡ ones_before bytes n
   part_some =
       let r = n % 8 in

@@ -1,6 +1,7 @@
 -- Blocks of T followed by L, from the blocks of each.
-use Rattle.std.proofs.Common.{◌≡◌, ℕ, ◌+◌, ◌-◌, ◌*◌, ◌/◌, ◌%◌, ◌<◌, ◌≤◌, Bool, ◌⊎◌, List, ◌++◌, length, take, drop, sym, refl, ap, ◌∙◌, subst, inl, inr, arith, length-append, length-drop}
+use Rattle.std.proofs.Common.{◌≡◌, ℕ, ◌+◌, ◌-◌, ◌*◌, ◌/◌, ◌%◌, ◌<◌, ◌≤◌, Bool, ◌⊎◌, List, Option, Some, None, MatchOption, ◌++◌, length, take, drop, sym, refl, ap, ◌∙◌, subst, inl, inr, arith, length-append, length-drop}
 use lib.Seq.{drop-append-add}
+use Rattle.std.specs.Option.{option_map}
 use Rattle.std.proofs.lemmas.List.{take-append-le, drop-append-le}
 use Rattle.std.proofs.lemmas.Bool.{cases_lt}
 use Rattle.tree.specs.Bitmaps.{AllFilledBelow, bits, Filled, ones}
@@ -59,18 +60,6 @@ module _ (T L : List ℕ) (tn ln : ℕ) (four : tn % 4 ≡ 0) (four' : ln % 4 �
   abbrev all : List Bool
   all = bits T tn ++ bits L ln
 
-  abbrev blocks_t : List Bool
-  blocks_t = bits T (4 * (tn / 4))
-
-  abbrev blocks_l : List Bool
-  blocks_l = bits L (4 * (ln / 4))
-
-  same_t : blocks_t ≡ bits T tn
-  same_t = let e : 4 * (tn / 4) ≡ tn = omega arith in ap (bits T) e
-
-  same_l : blocks_l ≡ bits L ln
-  same_l = let e : 4 * (ln / 4) ≡ ln = omega arith in ap (bits L) e
-
   long : length (bits T tn) ≡ tn
   long = length-bits T tn
 
@@ -80,24 +69,21 @@ module _ (T L : List ℕ) (tn ln : ℕ) (four : tn % 4 ≡ 0) (four' : ln % 4 �
   whole_four : length (bits T tn) % 4 ≡ 0
   whole_four = omega (arith, long)
 
-  to_t : (k : ℕ) → Filled blocks_t k → Filled (bits T tn) k
-  to_t k f = subst (λ x. Filled x k) same_t f
-
-  pub hollow_t : (k : ℕ) → 1 ≤ k → k < tn / 4 → (Filled blocks_t k → ⊥) → ((j : ℕ) → 1 ≤ j → j < k → Filled blocks_t j)
+  pub hollow_t : (k : ℕ) → 1 ≤ k → k < tn / 4 → (Filled (bits T tn) k → ⊥) → ((j : ℕ) → 1 ≤ j → j < k → Filled (bits T tn) j)
       → Hollow all (4 * k) × ((q : ℕ) → q < 4 * k → Hollow all q → ⊥)
   hollow_t k p h e before =
       hollow_at all k (omega arith) (omega (arith, long_all))
-      (λ f. e (subst (λ x. Filled x k) (sym same_t) (part_t (bits T tn) (bits L ln) whole_four k (omega (arith, long)) f)))
-      (λ j q lt. whole_t (bits T tn) (bits L ln) whole_four j (omega (arith, long)) (to_t j (before j (omega arith) lt)))
+      (λ f. e (part_t (bits T tn) (bits L ln) whole_four k (omega (arith, long)) f))
+      (λ j q lt. whole_t (bits T tn) (bits L ln) whole_four j (omega (arith, long)) (before j (omega arith) lt))
 
-  module _ (upper : (k : ℕ) → 1 ≤ k → k < tn / 4 → Filled blocks_t k) (from : ℕ) (first : tn ≡ 0 → from ≡ 1) (some : (tn ≡ 0 → ⊥) → from ≡ 0) where
-    filled_to : (n : ℕ) → ((j : ℕ) → from ≤ j → j < n → Filled blocks_l j) → (k : ℕ) → 0 < k → 4 * k < tn + 4 * n → Filled all k
+  module _ (upper : (k : ℕ) → 1 ≤ k → k < tn / 4 → Filled (bits T tn) k) (from : ℕ) (first : tn ≡ 0 → from ≡ 1) (some : (tn ≡ 0 → ⊥) → from ≡ 0) where
+    filled_to : (n : ℕ) → ((j : ℕ) → from ≤ j → j < n → Filled (bits L ln) j) → (k : ℕ) → 0 < k → 4 * k < tn + 4 * n → Filled all k
     filled_to n lower k p h =
-        filled_so (bits T tn) (bits L ln) whole_four (λ j q lt. to_t j (upper j q (omega (arith, long)))) n from
+        filled_so (bits T tn) (bits L ln) whole_four (λ j q lt. upper j q (omega (arith, long))) n from
         (λ z. first (omega (arith, long))) (λ ne. some (λ z. ne (long ∙ z)))
-        (λ j q lt. subst (λ x. Filled x j) same_l (lower j q lt)) k p (omega (arith, long))
+        lower k p (omega (arith, long))
 
-    pub hollow_l : (k : ℕ) → from ≤ k → k < ln / 4 → (Filled blocks_l k → ⊥) → ((j : ℕ) → from ≤ j → j < k → Filled blocks_l j)
+    hollow_l : (k : ℕ) → from ≤ k → k < ln / 4 → (Filled (bits L ln) k → ⊥) → ((j : ℕ) → from ≤ j → j < k → Filled (bits L ln) j)
         → Hollow all (tn + 4 * k) × ((q : ℕ) → q < tn + 4 * k → Hollow all q → ⊥)
     hollow_l k p h e before =
         let b = tn / 4 + k in
@@ -105,12 +91,20 @@ module _ (T L : List ℕ) (tn ln : ℕ) (four : tn % 4 ≡ 0) (four' : ln % 4 �
         let pos : 0 < b = go (cases_lt 0 tn) in
         subst (λ x. Hollow all x × ((q : ℕ) → q < x → Hollow all q → ⊥)) at
         (hollow_at all b pos (omega (arith, long_all))
-        (λ f. e (subst (λ x. Filled x k) (sym same_l) (part_l (bits T tn) (bits L ln) whole_four b k (omega (arith, long)) f)))
+        (λ f. e (part_l (bits T tn) (bits L ln) whole_four b k (omega (arith, long)) f))
         (λ j q lt. filled_to k before j q (omega arith)))
       where
         go : (0 < tn) ⊎ (tn ≤ 0) → 0 < tn / 4 + k
         go (inl s) = omega arith
         go (inr z) = omega (arith, first (omega arith))
 
-    pub filled_all : ((j : ℕ) → from ≤ j → j < ln / 4 → Filled blocks_l j) → AllFilledBelow all
+    filled_all : ((j : ℕ) → from ≤ j → j < ln / 4 → Filled (bits L ln) j) → AllFilledBelow all
     filled_all lower k p h = filled_to (ln / 4) lower k p (omega (arith, long_all))
+
+    -- the first in L
+    pub first_in_l : (r : Option ℕ)
+        → MatchOption r ((k : ℕ) → from ≤ k → k < ln / 4 → Filled (bits L ln) k)
+        (λ k. (from ≤ k) × (k < ln / 4) × (Filled (bits L ln) k → ⊥) × ((j : ℕ) → from ≤ j → j < k → Filled (bits L ln) j))
+        → MatchOption (option_map (λ b. tn + 4 * b) r) (AllFilledBelow all) (λ p. Hollow all p × ((q : ℕ) → q < p → Hollow all q → ⊥))
+    first_in_l None f = filled_all f
+    first_in_l (Some k) f = hollow_l k f.0 f.1 f.2 f.3

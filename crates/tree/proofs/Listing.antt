@@ -4,6 +4,7 @@ use Rattle.std.specs.List.{AllByRecursion}
 use Rattle.board.specs.Lists.{Rising}
 use Rattle.tree.specs.Bitmaps.{Climbs}
 use Rattle.tree.specs.Laws.{Listed}
+use Rattle.tree.specs.declared.writer.Listing.{Listing}
 
 pub all-places : (P : ℕ → Type 0) (cs : List ℕ) → ((k : ℕ) → k < length cs → P (get_or cs k 0)) → AllByRecursion P cs
 all-places P [] f = tt
@@ -25,3 +26,7 @@ climbs_of (c ∷ cs) r = (above-all c cs (λ s. r 0 (omega arith)) (rest_rises c
 
 pub listed_of : (height : ℕ) (cs : List ℕ) → Rising cs (length cs) → ((k : ℕ) → k < length cs → get_or cs k 0 < 4 ^ height) → Listed height cs
 listed_of height cs r small = (climbs_of cs r, all-places (λ c. c < 4 ^ height) cs small)
+
+-- what stands in a listing is listed
+pub listed : (s : Listing) → Listed s.height.levels s.codes.now
+listed s = listed_of s.height.levels s.codes.now s.rises.rising s.fits

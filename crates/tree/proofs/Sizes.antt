@@ -1,7 +1,8 @@
 -- Where the levels end.
-use Rattle.std.proofs.Common.{◌≡◌, ℕ, zero, suc, ◌+◌, ◌-◌, ◌*◌, ◌%◌, ◌<◌, ◌≤◌, Bool, eqb, ◌⊎◌, List, [], ◌∷◌, ◌++◌, length, get_or, take, drop, set, Decides, sym, refl, ap, ◌∙◌, inl, inr, arith, length-append}
-use Rattle.std.proofs.lemmas.List.{get_or-set_same, get_or-set_other}
-use Rattle.std.proofs.lemmas.Bool.{eq-eqb, eqb-true, cases_eq}
+use Rattle.std.proofs.Common.{◌≡◌, ℕ, zero, suc, ◌+◌, ◌-◌, ◌*◌, ◌%◌, ◌<◌, ◌≤◌, Bool, eqb, List, [], ◌∷◌, ◌++◌, length, get_or, take, drop, set, Decides, refl, ap, ◌∙◌, arith, length-append}
+use borrow.Rule.Slice.PartMut.{put_mid}
+use Rattle.std.proofs.lemmas.List.{get_or_append_left}
+use Rattle.std.proofs.lemmas.Bool.{eq-eqb, eqb-true}
 use Rattle.tree.specs.Bitmaps.{bits, ones, demanded, Sized}
 use Rattle.tree.specs.Reader.{ones_before}
 use Rattle.tree.proofs.Bytes.{length-bits}
@@ -70,26 +71,27 @@ module _ (t : List ℕ) (tn : ℕ) (l : List Bool) where
         λ s. eq-eqb (4 + 4 * rank) (tn + ln) (omega (arith, s.1)),
       )
 
--- one count more
-module _ (t counts old : List ℕ) (part total r : ℕ) (fits : part + 1 < length counts) (is : total ≡ ones_before t (512 * part))
-    (ensured : ones_before t (512 * part) + r ≡ ones_before t (512 * (part + 1))) where
-  pub total_more : total + r ≡ ones_before t (512 * (part + 1))
-  total_more = ap (λ x. x + r) is ∙ ensured
+-- a 0 first, and these counts behind it
+module _ (counts ys : List ℕ) (k : ℕ) (some : 0 < length counts) where
+  abbrev laid : List ℕ
+  laid = put_mid 1 k (set counts 0 0) ys
 
-  pub counts_more : ((j : ℕ) → j ≤ part → get_or counts j 0 ≡ ones_before t (512 * j)) → (j : ℕ) → j ≤ part + 1 → get_or (set counts (part + 1) (total + r)) j 0 ≡ ones_before t (512 * j)
-  counts_more f j h = go (cases_eq j (part + 1))
+  pub laid-long : length ys < length laid
+  laid-long = go counts some
     where
-      go : (j ≡ part + 1) ⊎ (j ≡ part + 1 → ⊥) → get_or (set counts (part + 1) (total + r)) j 0 ≡ ones_before t (512 * j)
-      go (inl e) =
-          ap (λ k. get_or (set counts (part + 1) (total + r)) k 0) e ∙ get_or-set_same counts (part + 1) (total + r) 0 fits ∙ total_more ∙ ap (λ k. ones_before t (512 * k)) (sym e)
-      go (inr ne) = get_or-set_other counts (part + 1) j (total + r) 0 ne ∙ f j (omega arith)
+      go : (cs : List ℕ) → 0 < length cs → length ys < length (put_mid 1 k (set cs 0 0) ys)
+      go [] h = absurd (omega arith)
+      go (c ∷ cs) h = omega (arith, length-append ys (drop k cs))
 
-  pub counts_kept : ((j : ℕ) → part < j → get_or counts j 0 ≡ get_or old j 0) → (j : ℕ) → part + 1 < j → get_or (set counts (part + 1) (total + r)) j 0 ≡ get_or old j 0
-  counts_kept f j h = get_or-set_other counts (part + 1) j (total + r) 0 (λ e. omega arith) ∙ f j (omega arith)
-
-pub counts-first : (t counts : List ℕ) → 0 < length counts → (j : ℕ) → j ≤ 0 → get_or (set counts 0 0) j 0 ≡ ones_before t (512 * j)
-counts-first t counts h zero k = get_or-set_same counts 0 0 0 h
-counts-first t counts h (suc j) k = absurd (omega arith)
+  pub laid-is : (t : List ℕ) → ((j : ℕ) → j < length ys → get_or ys j 0 ≡ ones_before t (512 * (j + 1))) → (j : ℕ) → j ≤ length ys → get_or laid j 0 ≡ ones_before t (512 * j)
+  laid-is t f = go counts some
+    where
+      go : (cs : List ℕ) → 0 < length cs → (j : ℕ) → j ≤ length ys → get_or (put_mid 1 k (set cs 0 0) ys) j 0 ≡ ones_before t (512 * j)
+      go [] h j le = absurd (omega arith)
+      go (c ∷ cs) h zero le = refl
+      go (c ∷ cs) h (suc j) le =
+          let e : j + 1 ≡ suc j = omega arith in
+          get_or_append_left ys (drop k cs) 0 j (omega arith) ∙ f j (omega arith) ∙ ap (λ n. ones_before t (512 * n)) e
 
 -- levels are whole blocks
 pub demanded_four : (k m : ℕ) (bs : List Bool) → demanded k m bs % 4 ≡ 0

@@ -1,5 +1,7 @@
 // Why a tree, a directory or a writing is refused.
+ghost use Rattle.std.specs.Prelude.{◌≡◌};
 ghost use Rattle.tree.specs.Faults.{tree_numbered, writer_numbered};
+ghost use Rattle.tree.specs.declared.fault.WriterFault.TheVariants.{List as OfList};
 
 use board::list::ListFault;
 use board::refusal::Refusal;
@@ -50,9 +52,9 @@ impl Refusal for TreeFault {
             | TreeFault::Levels
             | TreeFault::SpareBit(Part::T) => 0,
             TreeFault::SpareBit(Part::L) => 1,
-            TreeFault::EmptyBlock(place) => place,
-            TreeFault::ShortDirectory(place) => place,
-            TreeFault::WrongCount(place) => place,
+            TreeFault::EmptyBlock(place)
+            | TreeFault::ShortDirectory(place)
+            | TreeFault::WrongCount(place) => place,
         }
     }
 }
@@ -67,6 +69,14 @@ pub enum WriterFault {
     TooLarge(usize),
     // this bitmap needs more bytes than lent, or more bits than are allowed
     NoRoom(Part),
+}
+
+impl From<ListFault> for WriterFault {
+    ghost from_gives = { λ f w. w ≡ OfList f };
+
+    fn from(fault: ListFault) -> Self {
+        Self::List(fault)
+    }
 }
 
 impl Refusal for WriterFault {

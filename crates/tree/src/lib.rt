@@ -4,6 +4,7 @@
 mod bitmaps;
 pub mod directory;
 pub mod fault;
+mod height;
 pub mod laws;
 mod opening;
 pub mod query;

@@ -1,53 +1,50 @@
 // What opening a tree checks.
-ghost use Rattle.std.specs.Prelude.{◌≡◌, ℕ, ◌*◌, ◌%◌, ◌^◌, ◌<◌, ◌≤◌, Bool, List, [], ◌++◌, length, is_ok, Decides, MatchOption, MatchResult};
+ghost use Rattle.std.specs.Prelude.{◌≡◌, ℕ, ◌/◌, ◌%◌, ◌<◌, ◌≤◌, List, [], ◌++◌, is_ok, Decides, MatchOption, MatchResult};
 ghost use Rattle.tree.specs.Bitmaps.{AllFilledBelow, bits, Filled, Sized};
 ghost use Rattle.tree.specs.Faults.{First, Hollow, TreeBreaks, tree_numbered};
-ghost use Rattle.tree.specs.Held.{cells_of, Reads};
+ghost use Rattle.tree.specs.Held.{bits_of, cells_of, Reads};
 ghost use Rattle.tree.specs.Laws.{OneTree};
 ghost use Rattle.store.specs.Exact.{exact, Exactly};
 ghost use Rattle.board.specs.Lists.{Has};
 ghost use Rattle.tree.specs.Openings.{BitsOf, Opens};
-ghost use Rattle.tree.specs.Reader.{Bitmap, most_bits};
+ghost use Rattle.board.specs.Limits.{parts};
 
-use crate::bitmaps::{BLOCK, SPACING, is_bitmap, ones_between, spares_clear};
+use crate::bitmaps::{BLOCK, Bits, SPACING};
 use crate::directory::first_wrong;
 use crate::fault::{Part, TreeFault};
+use crate::height::Height;
 use crate::reader::Tree;
-use board::square::TOP;
 
 // Have T and L the bits that their levels demand? Each level is gone over once.
-fn levels_fit(t: &[u8], t_bits: usize, l_bits: usize, height: u8) -> bool
-    requires upper { Bitmap t.now t_bits }
-    requires lower { l_bits ≤ most_bits }
-    requires high { 0 < height }
-    ensures { (l : List Bool) → length l ≡ l_bits → Decides result (Sized height (bits t.now t_bits) l) }
+fn levels_fit(t: &Bits, l: &Bits, height: Height) -> bool
+    ensures { Decides result (Sized height.levels (bits_of t.now) (bits_of l.now)) }
 {
     let mut end = 0usize;
     let mut ones = 0usize;
-    for _level in 1..height {
+    for _level in 1..height.levels {
         let next = BLOCK + BLOCK * ones;
-        if next > t_bits {
+        if next > t.len {
             return false;
         }
-        ones += ones_between(t, end, next);
+        ones += t.ones_between(end, next);
         end = next;
     }
-    if end != t_bits {
+    if end != t.len {
         return false;
     }
-    BLOCK + BLOCK * ones == t_bits + l_bits
+    BLOCK + BLOCK * ones == t.len + l.len
 }
 
 // The first block that has no 1, of those from a given one on.
-fn first_empty(bytes: &[u8], from: usize, blocks: usize) -> Option<usize>
-    requires { (blocks ≤ 2 * length bytes.now) × (blocks < 2 ^ 60) }
+fn first_empty(b: &Bits, from: usize) -> Option<usize>
     ensures { MatchOption result
-        ((k : ℕ) → from ≤ k → k < blocks → Filled (bits bytes.now (4 * blocks)) k)
-        (λ k. (from ≤ k) × (k < blocks) × (Filled (bits bytes.now (4 * blocks)) k → ⊥)
-        × ((j : ℕ) → from ≤ j → j < k → Filled (bits bytes.now (4 * blocks)) j)) }
+        ((k : ℕ) → from ≤ k → k < b.now.len / parts → Filled (bits_of b.now) k)
+        (λ k. (from ≤ k) × (k < b.now.len / parts) × (Filled (bits_of b.now) k → ⊥)
+        × ((j : ℕ) → from ≤ j → j < k → Filled (bits_of b.now) j)) }
 {
-    for k in from..blocks {
-        if (bytes[k / 2] >> (BLOCK * (k % 2))) & 15 == 0 {
+    // By an index: with the range's own find, an opening takes half as long again and more.
+    for k in from..b.len / BLOCK {
+        if (b.bytes[k / 2] >> (BLOCK * (k % 2))) & 15 == 0 {
             return Some(k);
         }
     }
@@ -55,59 +52,53 @@ fn first_empty(bytes: &[u8], from: usize, blocks: usize) -> Option<usize>
 }
 
 // Where the first block below the first level that has no 1 begins, in T followed by L.
-fn first_hollow(t: &[u8], t_bits: usize, l: &[u8], l_bits: usize) -> Option<usize>
-    requires upper { (Bitmap t.now t_bits) × (t_bits % 4 ≡ 0) }
-    requires lower { (Bitmap l.now l_bits) × (l_bits % 4 ≡ 0) }
+fn first_hollow(t: &Bits, l: &Bits) -> Option<usize>
+    requires { (t.now.len % parts ≡ 0) × (l.now.len % parts ≡ 0) }
     ensures { MatchOption result
-        (AllFilledBelow (bits t.now t_bits ++ bits l.now l_bits))
-        (λ p. Hollow (bits t.now t_bits ++ bits l.now l_bits) p
-        × ((q : ℕ) → q < p → Hollow (bits t.now t_bits ++ bits l.now l_bits) q → ⊥)) }
+        (AllFilledBelow (bits_of t.now ++ bits_of l.now))
+        (λ p. Hollow (bits_of t.now ++ bits_of l.now) p
+        × ((q : ℕ) → q < p → Hollow (bits_of t.now ++ bits_of l.now) q → ⊥)) }
 {
-    if let Some(block) = first_empty(t, 1, t_bits / BLOCK) {
+    if let Some(block) = first_empty(t, 1) {
         return Some(BLOCK * block);
     }
-    let from = if t_bits == 0 { 1 } else { 0 };
-    match first_empty(l, from, l_bits / BLOCK) {
-        Some(block) => Some(t_bits + BLOCK * block),
-        None => None,
-    }
+    let before = t.len;
+    let from = if before == 0 { 1 } else { 0 };
+    first_empty(l, from).map(|block| before + BLOCK * block)
 }
 
-// The checks of a tree, in their order.
-pub(crate) fn check_tree(
+// The two bitmaps of a tree that passes the checks, which come in this order.
+fn check_tree<'a>(
     height: u8,
-    t: &[u8],
+    t: &'a [u8],
     t_bits: usize,
-    l: &[u8],
+    l: &'a [u8],
     l_bits: usize,
     counts: &[u32],
-) -> Result<(), TreeFault>
-    ensures { MatchResult result (λ _. Opens height t.now t_bits l.now l_bits counts.now) (λ f. First (TreeBreaks height t.now t_bits l.now l_bits counts.now) (tree_numbered f)) }
+) -> Result<(Bits<'a>, Bits<'a>), TreeFault>
+    ensures { MatchResult result (λ b. Opens height t.now t_bits l.now l_bits counts.now × (b.0.bytes.now ≡ t.now) × (b.0.len ≡ t_bits) × (b.1.bytes.now ≡ l.now) × (b.1.len ≡ l_bits)) (λ f. First (TreeBreaks height t.now t_bits l.now l_bits counts.now) (tree_numbered f)) }
 {
-    if height == 0 || height > TOP {
-        return Err(TreeFault::Height);
-    }
-    if !is_bitmap(t, t_bits) || !is_bitmap(l, l_bits) {
-        return Err(TreeFault::Size);
-    }
-    if !levels_fit(t, t_bits, l_bits, height) {
+    let height = Height::of(height).ok_or(TreeFault::Height)?;
+    let t = Bits::of(t, t_bits).ok_or(TreeFault::Size)?;
+    let l = Bits::of(l, l_bits).ok_or(TreeFault::Size)?;
+    if !levels_fit(&t, &l, height) {
         return Err(TreeFault::Levels);
     }
-    if let Some(place) = first_hollow(t, t_bits, l, l_bits) {
+    if let Some(place) = first_hollow(&t, &l) {
         return Err(TreeFault::EmptyBlock(place));
     }
-    if !spares_clear(t, t_bits) {
+    if !t.spares_clear() {
         return Err(TreeFault::SpareBit(Part::T));
     }
-    if !spares_clear(l, l_bits) {
+    if !l.spares_clear() {
         return Err(TreeFault::SpareBit(Part::L));
     }
-    if counts.len() <= t_bits / SPACING {
+    if counts.len() <= t.len / SPACING {
         return Err(TreeFault::ShortDirectory(counts.len()));
     }
-    match first_wrong(t, t_bits, counts) {
+    match first_wrong(&t, counts) {
         Some(count) => Err(TreeFault::WrongCount(count)),
-        None => Ok(()),
+        None => Ok((t, l)),
     }
 }
 
@@ -117,16 +108,18 @@ impl<'a> Tree<'a> {
         ensures no_cell { cells_of result ≡ [] }
     {
         Tree {
-            t: &[],
-            l: &[0],
+            t: Bits { bytes: &[], len: 0 },
+            l: Bits {
+                bytes: &[0],
+                len: BLOCK,
+            },
             counts: &[0],
             height: 1,
-            t_bits: 0,
-            l_bits: 4,
         }
     }
 
     // Takes over a tree from outside, once it has passed its checks; refused, the reader is as before.
+    // Its parts are no struct: lent parts in a struct have two values in a clause, and each clause would say which.
     pub fn open(
         &mut self,
         height: u8,
@@ -141,13 +134,11 @@ impl<'a> Tree<'a> {
         ensures then_holds_that_set { (codes : List ℕ) → BitsOf codes height t.now t_bits l.now l_bits counts.now → (cells_of self.new ≡ codes) × Exactly (Has codes) (exact (cells_of self.new)) }
         ensures same_cells_same_bits { OneTree }
     {
-        check_tree(height, t, t_bits, l, l_bits, counts)?;
+        let (t, l) = check_tree(height, t, t_bits, l, l_bits, counts)?;
         self.t = t;
         self.l = l;
         self.counts = counts;
         self.height = height;
-        self.t_bits = t_bits;
-        self.l_bits = l_bits;
         Ok(())
     }
 }

@@ -1,57 +1,54 @@
 // Writes, opens and reads back sets of cells at every height, and flips each bit of their bitmaps: each flip is refused or gives another set.
 #![tactic(auto)]
 
-mod random;
 mod trial;
 
-use random::Random;
-use std::alloc::Global;
+use samples::dice::Dice;
+use samples::lists::in_order;
+use std::alloc::{AllocError, Global};
 use trial::{Totals, try_set};
+
+// The last code below 4 ^ height; the height is taken as 1 to 16.
+fn last_code(height: u8) -> u32 {
+    u32::MAX >> (32 - 2 * height.clamp(1, 16))
+}
 
 // So many codes below 4 ^ height, in order, some perhaps the same and then left out.
 fn random_codes(
     heap: Global,
-    random: &mut Random,
+    dice: &mut Dice,
     height: u8,
     count: u32,
-) -> anyhow::Result<Vec<u32>> {
-    let mut codes = Vec::new(heap);
-    for _ in 0..count {
-        codes.push(random.code(height))?;
-    }
-    codes.sort()?;
-    codes.dedup();
-    Ok(codes)
+) -> Result<Vec<u32>, AllocError> {
+    let codes = (0..count).map(|_| dice.roll() & last_code(height));
+    Ok(in_order(codes.collect(heap)?))
 }
 
 // The sets of one height: none, two corners, random ones, and the whole square where it is small.
 fn try_height(
     heap: Global,
-    random: &mut Random,
+    dice: &mut Dice,
     height: u8,
     totals: &mut Totals,
 ) -> anyhow::Result<()> {
     try_set(heap, &[], height, totals)?;
-    try_set(heap, &[0, random::last_code(height)], height, totals)?;
+    try_set(heap, &[0, last_code(height)], height, totals)?;
     for count in 1..13 {
-        let codes = random_codes(heap, random, height, count)?;
+        let codes = random_codes(heap, dice, height, count)?;
         try_set(heap, codes.as_slice(), height, totals)?;
     }
     if height <= 3 {
-        let mut codes = Vec::new(heap);
-        for code in 0..=random::last_code(height) {
-            codes.push(code)?;
-        }
+        let codes: Vec<u32> = (0..=last_code(height)).collect(heap)?;
         try_set(heap, codes.as_slice(), height, totals)?;
     }
     Ok(())
 }
 
 fn run(rt: &HostRuntime) -> anyhow::Result<()> {
-    let mut random = Random::new();
-    let mut totals = Totals::new();
+    let mut dice = Dice { state: 1 };
+    let mut totals = Totals::default();
     for height in 1..17 {
-        try_height(rt.alloc(), &mut random, height, &mut totals)?;
+        try_height(rt.alloc(), &mut dice, height, &mut totals)?;
     }
     let Totals {
         sets,

@@ -1,14 +1,15 @@
 // One set: written, opened, read back, and each of its bits flipped.
 use anyhow::anyhow;
-use board::square::{Square, TOP};
+use board::square::Square;
 use std::alloc::Global;
 use store::store::{Answer, Store};
 use tree::directory::fill_directory;
+use tree::fault::TreeFault;
 use tree::reader::Tree;
 use tree::writer::write;
 
 // How many sets were tried, and what came of them.
-#[derive(Clone, Copy)]
+#[derive(Clone, Copy, Default)]
 pub(crate) struct Totals {
     pub(crate) sets: u32,
     pub(crate) read_back: u32,
@@ -18,75 +19,30 @@ pub(crate) struct Totals {
 }
 
 impl Totals {
-    pub(crate) fn new() -> Totals {
-        Totals {
-            sets: 0,
-            read_back: 0,
-            flips: 0,
-            refused: 0,
-            others: 0,
-        }
-    }
-
-    // Counts what a flipped bit led to.
-    fn flipped(&mut self, reading: Reading) {
+    // Counts what a flipped bit led to: the set, another one, or a refusal.
+    fn flipped(&mut self, reading: Result<bool, TreeFault>) {
         self.flips = self.flips.saturating_add(1);
         match reading {
-            Reading::Refused => self.refused = self.refused.saturating_add(1),
-            Reading::Others => self.others = self.others.saturating_add(1),
-            Reading::Same => {}
+            Ok(true) => {}
+            Ok(false) => self.others = self.others.saturating_add(1),
+            Err(_) => self.refused = self.refused.saturating_add(1),
         }
     }
-}
-
-// What is read from bitmaps, beside the cells that they were written from.
-#[derive(Clone, Copy, PartialEq, Eq)]
-enum Reading {
-    Refused,
-    Same,
-    Others,
 }
 
 // Does the tree hold these cells, and no other?
 fn holds_just(tree: &Tree, codes: &[u32]) -> bool {
-    let board = Square {
-        level: TOP,
-        number: 0,
-    };
-    for code in codes {
+    let held = codes.iter().all(|code| {
         let cell = Square {
             level: 0,
             number: *code,
         };
-        if tree.query(cell) == Answer::Empty {
-            return false;
-        }
-    }
-    tree.tally(board) == codes.len() as u64
+        tree.query(cell) != Answer::Empty
+    });
+    held && tree.tally(Square::BOARD) == codes.len() as u64
 }
 
-// Opens bitmaps, and reads them.
-fn read_tree<'a>(
-    codes: &[u32],
-    height: u8,
-    t: &'a [u8],
-    t_bits: usize,
-    l: &'a [u8],
-    l_bits: usize,
-    counts: &'a [u32],
-) -> Reading {
-    let mut tree = Tree::empty();
-    if tree.open(height, t, t_bits, l, l_bits, counts).is_err() {
-        return Reading::Refused;
-    }
-    if holds_just(&tree, codes) {
-        Reading::Same
-    } else {
-        Reading::Others
-    }
-}
-
-// A set, and its bitmaps.
+// A set, and its bitmaps; how many bits they have does not follow from their bytes.
 #[derive(Drop)]
 struct Written<'a> {
     codes: &'a [u32],
@@ -109,20 +65,29 @@ impl Written<'_> {
         }
     }
 
-    fn read(&self) -> Reading {
+    // Opens the bitmaps: do they hold the cells that they were written from, and no other?
+    fn reads_back(&self) -> Result<bool, TreeFault> {
         let mut counts = [0u32; 16];
-        if fill_directory(self.t.as_slice(), self.t_bits, &mut counts).is_err() {
-            return Reading::Refused;
-        }
-        read_tree(
-            self.codes,
+        fill_directory(self.t.as_slice(), self.t_bits, &mut counts)?;
+        let mut tree = Tree::empty();
+        tree.open(
             self.height,
             self.t.as_slice(),
             self.t_bits,
             self.l.as_slice(),
             self.l_bits,
             &counts,
-        )
+        )?;
+        Ok(holds_just(&tree, self.codes))
+    }
+
+    // Flips each bit of a byte of T followed by L in turn.
+    fn try_byte(&mut self, byte: usize, totals: &mut Totals) {
+        for bit in 0..8 {
+            self.flip(byte, bit);
+            totals.flipped(self.reads_back());
+            self.flip(byte, bit);
+        }
     }
 }
 
@@ -154,15 +119,12 @@ pub(crate) fn try_set(
 ) -> anyhow::Result<()> {
     let mut set = write_down(heap, codes, height)?;
     totals.sets = totals.sets.saturating_add(1);
-    if set.read() == Reading::Same {
+    if set.reads_back() == Ok(true) {
         totals.read_back = totals.read_back.saturating_add(1);
     }
+    // by number, since the bytes change while they are gone through
     for byte in 0..set.t.len().saturating_add(set.l.len()) {
-        for bit in 0..8 {
-            set.flip(byte, bit);
-            totals.flipped(set.read());
-            set.flip(byte, bit);
-        }
+        set.try_byte(byte, totals);
     }
     Ok(())
 }

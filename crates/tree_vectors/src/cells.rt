@@ -1,5 +1,5 @@
 // The cells of a store, in order, found by asking for squares.
-use board::square::{PARTS, Square, TOP};
+use board::square::{PARTS, Square};
 use std::alloc::{AllocError, Global};
 use store::store::{Answer, Store};
 use tree::reader::Tree;
@@ -22,10 +22,6 @@ fn add_cells(tree: &Tree, square: Square, cells: &mut Vec<u32>) -> Result<(), Al
 
 pub(crate) fn cells_of(heap: Global, tree: &Tree) -> Result<Vec<u32>, AllocError> {
     let mut cells = Vec::new(heap);
-    let board = Square {
-        level: TOP,
-        number: 0,
-    };
-    add_cells(tree, board, &mut cells)?;
+    add_cells(tree, Square::BOARD, &mut cells)?;
     Ok(cells)
 }

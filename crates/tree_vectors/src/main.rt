@@ -10,15 +10,13 @@ use board::refusal::Refusal;
 use cells::cells_of;
 use std::alloc::Global;
 use std::io::{BufRead, BufReader};
-use text::{bytes_of, hex, list, numbers_of};
+use text::{bytes_of, hex_of, list, numbers_of};
 use tree::reader::Tree;
 use tree::writer::write;
 
 // What a refusal prints.
 fn refused<F: Refusal>(heap: Global, fault: &F) -> anyhow::Result<String> {
-    let number = fault.number();
-    let place = fault.place();
-    Ok(format!(in heap; "refused {number} {place}")?)
+    Ok(format!(in heap; "refused {}", fault.numbered())?)
 }
 
 // The bytes that so many bits take, and at most two more.
@@ -45,8 +43,8 @@ fn written(
         l.as_mut_slice(),
     ) {
         Ok((t_bits, l_bits)) => {
-            let t = hex(heap, shown(t.as_slice(), t_bits))?;
-            let l = hex(heap, shown(l.as_slice(), l_bits))?;
+            let t = hex_of(heap, shown(t.as_slice(), t_bits))?;
+            let l = hex_of(heap, shown(l.as_slice(), l_bits))?;
             Ok(format!(in heap; "{t_bits} {t} {l_bits} {l}")?)
         }
         Err(fault) => refused(heap, &fault),

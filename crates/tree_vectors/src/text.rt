@@ -1,68 +1,40 @@
-// Bytes and numbers as text.
-ghost use Rattle.std.specs.Prelude.{◌<◌, IfSome};
+// Bytes and numbers as text; - stands for none.
+use itertools::join;
+use std::alloc::{AllocError, Global};
 
-use anyhow::anyhow;
-use std::alloc::Global;
-
-// The value of a hexadecimal digit.
-fn digit(c: u8) -> Option<u8>
-    ensures below_sixteen { IfSome result (λ d. d < 16) }
-{
-    match c {
-        b'0'..=b'9' => Some(c - b'0'),
-        b'a'..=b'f' => Some(c - b'a' + 10),
-        _ => None,
-    }
-}
-
-// The bytes that pairs of digits stand for; - stands for none.
+// The bytes that pairs of digits stand for.
 pub(crate) fn bytes_of(heap: Global, text: &str) -> anyhow::Result<Vec<u8>> {
-    let mut bytes = Vec::new(heap);
-    let mut left = text.as_bytes();
-    while let [high, low, rest @ ..] = left {
-        let (Some(high), Some(low)) = (digit(*high), digit(*low)) else {
-            return Err(anyhow!("a byte is no pair of digits"));
-        };
-        bytes.push(high * 16 + low)?;
-        left = rest;
+    if text == "-" {
+        return Ok(Vec::new(heap));
     }
-    Ok(bytes)
+    Ok(hex::decode(heap, text)?)
 }
 
-// The bytes in hexadecimal, or - where there is none.
-pub(crate) fn hex(heap: Global, bytes: &[u8]) -> anyhow::Result<String> {
-    let mut out = String::new(heap);
-    for b in bytes {
-        out.push_str(format!(in heap; "{b:02x}")?.as_str())?;
+// The text, or - where it is empty.
+fn or_none(heap: Global, text: String) -> Result<String, AllocError> {
+    if text.is_empty() {
+        String::from_str(heap, "-")
+    } else {
+        Ok(text)
     }
-    if out.is_empty() {
-        out.push('-')?;
-    }
-    Ok(out)
 }
 
-// Numbers parted by commas; - stands for none.
+// The bytes in hexadecimal.
+pub(crate) fn hex_of(heap: Global, bytes: &[u8]) -> Result<String, AllocError> {
+    or_none(heap, hex::encode(heap, bytes)?)
+}
+
+// Numbers parted by commas.
 pub(crate) fn numbers_of(heap: Global, text: &str) -> anyhow::Result<Vec<u32>> {
-    let mut numbers = Vec::new(heap);
-    if text != "-" {
-        for word in text.split(',') {
-            numbers.push(word.parse::<u32>()?)?;
-        }
+    if text == "-" {
+        return Ok(Vec::new(heap));
     }
-    Ok(numbers)
+    text.split(',')
+        .map(|word| Ok(word.parse::<u32>()?))
+        .try_collect(heap)
 }
 
-// The numbers parted by commas, or - where there is none.
-pub(crate) fn list(heap: Global, numbers: &[u32]) -> anyhow::Result<String> {
-    let mut out = String::new(heap);
-    for n in numbers {
-        if !out.is_empty() {
-            out.push(',')?;
-        }
-        out.push_str(format!(in heap; "{n}")?.as_str())?;
-    }
-    if out.is_empty() {
-        out.push('-')?;
-    }
-    Ok(out)
+// The numbers parted by commas.
+pub(crate) fn list(heap: Global, numbers: &[u32]) -> Result<String, AllocError> {
+    or_none(heap, join(heap, numbers, ",")?)
 }

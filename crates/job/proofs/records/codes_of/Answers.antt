@@ -1,11 +1,11 @@
-use Rattle.std.proofs.Common.{vec_items, ◌∙◌, ap₂, rules}
-use Rattle.board.specs.Morton.{code}
-use Rattle.job.proofs.Reading.{one_more}
+use Rattle.std.proofs.Common.{rules, ◌≡◌, IfOk, vec_items, map, length, ◌/◌}
+use Rattle.std.specs.Simd.{first_chunks}
+use Rattle.job.specs.Records.{code_of_record}
+use Rattle.job.proofs.Reading.{records_are_groups}
 use Rattle.job.proofs.records.codes_of.Goals as goal
 
-pub loop-left-preserved : goal.loop-left-preserved
-loop-left-preserved c =
-    let bs = c.loop-left.left.now in
-    one_more (vec_items c.loop-left.codes) bs (_) (vec_items c.push.new.self) c.code.result (search rules) c.loop-left.invariant
-    c.in_ok-push.ensures.items
-    (c.code.ensures.value ∙ ap₂ code c.from_le_bytes.ensures c.from_le_bytes-in-len4-up.ensures)
+pub returns : goal.returns
+returns c =
+    let bs = c.args.bytes.now in
+    let ran : IfOk c.collect.result (λ v. vec_items v ≡ map code_of_record (first_chunks 4 (length bs / 4) bs)) = search rules in
+    record { codes_of_the_records = rw (records_are_groups bs) at ran }

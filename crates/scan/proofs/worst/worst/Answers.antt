@@ -1,64 +1,69 @@
-use Rattle.std.proofs.Common.{◌≡◌, ◌+◌, length, get_or, sym, refl, ap, ◌∙◌, subst, inl, arith}
+use Rattle.std.proofs.Common.{◌≡◌, ℕ, [], get_or, refl, rules}
 use Rattle.std.proofs.lemmas.Bool.Decides.{not_from_Decides}
+use Rattle.std.specs.List.{Contains}
 use Rattle.board.specs.Distances.{distance}
+use Rattle.board.specs.Findings.{code_of}
 use Rattle.board.specs.Lists.{Has}
-use Rattle.scan.proofs.Decoded.{by_codes}
-use Rattle.scan.proofs.Loops.{Nearby, Past, IsNearer, nearby_taken, nearby_kept, past_more, low_kept, low_taken}
-use Rattle.scan.specs.Pairs.{round}
-use Rattle.scan.proofs.Turns.{round-has, met_has, has_met}
+use Rattle.board.specs.declared.finding.Finding.{Finding}
+use Rattle.scan.specs.Rounds.{to_come}
+use Rattle.scan.proofs.Decoded.{coded}
+use Rattle.scan.proofs.Loops.{IsWithin, Meeting, meeting_none, meeting_taken, meeting_kept, low_kept, low_taken}
 use Rattle.scan.proofs.worst.worst.Goals as goal
-use Rattle.scan.proofs.worst.worst.Goals.{then-nearer, else-nearer}
 
-pub film-init : goal.film-init
-film-init g c = inl refl
+pub loop-other-init : goal.loop-other-init
+loop-other-init g c =
+    let b = c.args.b.now in
+    let coming = to_come c.into_iter-other-iterator.result in
+    let all : (q : ℕ) → (Has b q → Contains coming q) × (Contains coming q → Has b q) = rw c.into_iter-other-iterator.ensures.into_iter_gives c.of-other-items.ensures in
+    record { can = tt; finite = tt; meeting = meeting_none (distance (g.M.Measure.amount c.args.m.now)) b coming (code_of c.from_code-film.result) c.film.low all }
 
-pub film-preserved-then-within : goal.film-preserved-then-within
-film-preserved-then-within g c =
+pub film-preserved-then-is_some_and : goal.film-preserved-then-is_some_and
+film-preserved-then-is_some_and g c =
     let f = g.M.Measure.amount c.args.m.now in
     let a = c.args.a.now in
-    let b = c.args.b.now in
     let i = c.film.code-index in
-    let q = c.met_at-drawing.result in
-    let start = c.place_of-start.result in
-    let held : Has b q = rw c.met_at-drawing.ensures (round-has b start c.loop-i.i c.place_of-start.ensures c.loop-i-test.true) in
-    let e = by_codes f (get_or a i 0) q _ c.from_code-cell.result c.from_code.result
-    c.from_code-cell.ensures.column c.from_code-cell.ensures.row c.from_code.ensures.column c.from_code.ensures.row c.distance-d.ensures.value in
-    low_kept (distance f) a b i c.distance-d.result q c.film.low c.requires.rising c.film-test.true held
-    c.film.invariant (c.within.ensures.0 c.if-within.true) e
+    let x = c.in-Some.other.now in
+    let film = coded (get_or a i 0) c.from_code-film.result c.from_code-film.ensures.column c.from_code-film.ensures.row in
+    let drawing = coded x c.from_code-drawing.result c.from_code-drawing.ensures.column c.from_code-drawing.ensures.row in
+    let e : c.distance.result ≡ distance f (get_or a i 0) x = rw (← film, ← drawing) c.distance.ensures.value in
+    let within : IsWithin (distance f) c.film.low c.distance.result = search rules in
+    let took = c.in-Some.ensures.steps in
+    low_kept (distance f) a c.args.b.now i c.distance.result x c.film.low c.requires.rising c.film-test.true (c.loop-other.invariant.meeting.of_drawing x took.held) c.film.invariant within e
 
-pub loop-i-preserved : goal.loop-i-preserved
-loop-i-preserved g c =
+pub loop-other-preserved-then-nearer : goal.loop-other-preserved-then-nearer
+loop-other-preserved-then-nearer g c =
     let f = g.M.Measure.amount c.args.m.now in
-    let b = c.args.b.now in
-    let film = get_or c.args.a.now c.film.code-index 0 in
-    let at = round b c.place_of-start.result in
-    let i = c.loop-i.i in
-    let d = c.distance-d.result in
-    let q = c.met_at-drawing.result in
-    let met : q ≡ at i = c.met_at-drawing.ensures in
-    let e : d ≡ distance f film (at i) =
-    by_codes f film q d c.from_code-cell.result c.from_code.result
-    c.from_code-cell.ensures.column c.from_code-cell.ensures.row c.from_code.ensures.column c.from_code.ensures.row c.distance-d.ensures.value
-    ∙ ap (distance f film) met in (
-      elim c.if-nearer.branch [
-        | then-nearer w ↦ subst (Nearby (distance f) at film (i + 1)) (sym w.best-is)
-            (rw met (nearby_taken (distance f) at film i d c.loop-i.best c.loop-i.invariant.0 (subst (IsNearer (distance f) c.loop-i.best d) met (c.nearer.ensures.0 w.if-nearer.true)) e))
-        | else-nearer w ↦ subst (Nearby (distance f) at film (i + 1)) (sym w.best-is)
-            (nearby_kept (distance f) at film i d c.loop-i.best c.loop-i.invariant.0
-            (λ h. not_from_Decides c.nearer.result c.nearer.ensures w.if-nearer.false (subst (IsNearer (distance f) c.loop-i.best d) (sym met) h)) e)
-      ],
-      past_more (distance f) at film i d c.film.low c.loop-i.invariant.1 (not_from_Decides c.within.result c.within.ensures c.if-within.false) e,
-    )
+    let x = c.in-Some.other.now in
+    let drawing = coded x c.from_code-drawing.result c.from_code-drawing.ensures.column c.from_code-drawing.ensures.row in
+    let found : Finding = record { distance = c.distance.result; film = c.from_code-film.result; drawing = c.from_code-drawing.result } in
+    record {
+      can = tt;
+      finite = tt;
+      meeting =
+          meeting_taken (distance f) c.args.b.now _ (to_come c.next.new.self) (code_of c.from_code-film.result) x found c.film.low c.loop-other.best
+          c.loop-other.invariant.meeting c.in-Some.ensures.steps (c.distance.ensures.value, refl) drawing (search rules) (c.nearer.ensures.0 c.if-nearer.true);
+    }
+
+pub loop-other-preserved : goal.loop-other-preserved
+loop-other-preserved g c =
+    let f = g.M.Measure.amount c.args.m.now in
+    let x = c.in-Some.other.now in
+    let drawing = coded x c.from_code-drawing.result c.from_code-drawing.ensures.column c.from_code-drawing.ensures.row in
+    let found : Finding = record { distance = c.distance.result; film = c.from_code-film.result; drawing = c.from_code-drawing.result } in
+    record {
+      can = tt;
+      finite = tt;
+      meeting =
+          meeting_kept (distance f) c.args.b.now _ (to_come c.next.new.self) (code_of c.from_code-film.result) x found c.film.low c.loop-other.best
+          c.loop-other.invariant.meeting c.in-Some.ensures.steps (c.distance.ensures.value, refl) drawing (search rules) (not_from_Decides c.nearer.result c.nearer.ensures c.if-nearer.false);
+    }
 
 pub film-preserved : goal.film-preserved
 film-preserved g c =
     let f = g.M.Measure.amount c.args.m.now in
     let a = c.args.a.now in
     let b = c.args.b.now in
-    let film = get_or a c.film.code-index 0 in
-    let start = c.place_of-start.result in
-    let all : c.loop-i.i ≡ length b = omega arith in
-    low_taken (distance f) a b (round b start) c.film.code-index c.film.low c.loop-i.best
-    (met_has b start c.place_of-start.ensures) (has_met b start c.place_of-start.ensures) c.film.invariant
-    (subst (λ j. Nearby (distance f) (round b start) film j c.loop-i.best) all c.loop-i.invariant.0)
-    (subst (λ j. Past (distance f) (round b start) film j c.film.low) all c.loop-i.invariant.1)
+    let film = coded (get_or a c.film.code-index 0) c.from_code-film.result c.from_code-film.ensures.column c.from_code-film.ensures.row in
+    let ended = c.in-None.ensures.steps in
+    let meeting : Meeting (distance f) b [] (get_or a c.film.code-index 0) c.film.low c.loop-other.best = rw (← film, ← ended) c.loop-other.invariant.meeting in
+    low_taken (distance f) a b c.film.code-index c.film.low c.loop-other.best c.film.invariant meeting

@@ -1,12 +1,10 @@
-use Rattle.std.proofs.Common.{◌<◌, refl, arith}
+use Rattle.std.proofs.Common.{arith}
 use Rattle.store.specs.ExactFacts.{set_of}
-use Rattle.stripes.specs.Patterns.{OnStripe, striped}
 use Rattle.stripes.specs.PatternFacts.{exactly_striped}
 use Rattle.stripes.proofs.Stripes.new.Goals as goal
 
-pub returns : goal.returns
-returns c =
-    let p = c.args.pitch in
-    let h : 0 < p = omega arith in
-    let e = exactly_striped p h in
-    record { pitch_or_none = refl; exact = e; holds_the_stripes = set_of (OnStripe p) (striped p) e }
+pub returns-clause-exact : goal.returns-clause-exact
+returns-clause-exact c = exactly_striped c.args.pitch (omega arith)
+
+pub returns-clause-holds_the_stripes : goal.returns-clause-holds_the_stripes
+returns-clause-holds_the_stripes c = set_of _ _ (exactly_striped c.args.pitch (omega arith))

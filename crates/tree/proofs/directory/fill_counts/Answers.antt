@@ -1,33 +1,28 @@
-use Rattle.std.proofs.Common.{◌+◌, ◌*◌, ◌<◌, length, set, refl, arith, length-set}
+use Rattle.std.proofs.Common.{◌≡◌, ◌+◌, ◌-◌, ◌*◌, ◌/◌, ◌<◌, length, take, drop, set, arith, length-drop, length-set}
+use Rattle.std.proofs.lemmas.List.{length-take}
 use Rattle.tree.proofs.Bytes.{ones_before_le}
-use Rattle.tree.proofs.Sizes.{total_more, counts_more, counts_kept, counts-first}
+use Rattle.tree.proofs.Sizes.{laid-long, laid-is}
 use Rattle.tree.proofs.directory.fill_counts.Goals as goal
-
-pub loop-part-init : goal.loop-part-init
-loop-part-init c = (refl, counts-first c.args.t.now c.args.counts.now (omega (arith, c.requires.room)), λ j h. refl)
 
 pub overflow_add-total : goal.overflow_add-total
 overflow_add-total c =
     let l = c.loop-part in
-    let fits : l.part + 1 < length l.counts = omega (arith, l.auto.counts, length-set c.args.counts.now 0 0, c.requires.room, c.loop-part-test.true) in
-    let e = total_more c.args.t.now l.counts c.args.counts.now l.part l.total c.ones_of_step-total.result fits l.invariant.0 c.ones_of_step-total.ensures in
-    omega (arith, ones_before_le c.args.t.now (512 * (l.part + 1)), c.requires.upper, c.loop-part-test.true)
+    omega (arith, l.invariant.0, c.ones_of_step-total.ensures, ones_before_le c.args.t.now.bytes.now (512 * (l.part + 1)), c.args.t.now.fits, c.loop-part-test.true)
 
-pub overflow_cast-counts : goal.overflow_cast-counts
-overflow_cast-counts c =
+pub overflow_cast-count : goal.overflow_cast-count
+overflow_cast-count c =
     let l = c.loop-part in
-    let fits : l.part + 1 < length l.counts = omega (arith, l.auto.counts, length-set c.args.counts.now 0 0, c.requires.room, c.loop-part-test.true) in
-    let e = total_more c.args.t.now l.counts c.args.counts.now l.part l.total c.ones_of_step-total.result fits l.invariant.0 c.ones_of_step-total.ensures in
-    omega (arith, ones_before_le c.args.t.now (512 * (l.part + 1)), c.requires.upper, c.loop-part-test.true)
+    omega (arith, l.invariant.0, c.ones_of_step-total.ensures, ones_before_le c.args.t.now.bytes.now (512 * (l.part + 1)), c.args.t.now.fits, c.loop-part-test.true)
 
-pub loop-part-preserved : goal.loop-part-preserved
-loop-part-preserved c =
+pub returns-clause-directory : goal.returns-clause-directory
+returns-clause-directory c =
     let l = c.loop-part in
-    let old = set c.args.counts.now 0 0 in
-    let r = c.ones_of_step-total.result in
-    let fits : l.part + 1 < length l.counts = omega (arith, l.auto.counts, length-set c.args.counts.now 0 0, c.requires.room, c.loop-part-test.true) in
-    let e = total_more c.args.t.now l.counts old l.part l.total r fits l.invariant.0 c.ones_of_step-total.ensures in (
-      e,
-      counts_more c.args.t.now l.counts old l.part l.total r fits l.invariant.0 c.ones_of_step-total.ensures l.invariant.1,
-      counts_kept c.args.t.now l.counts old l.part l.total r fits l.invariant.0 c.ones_of_step-total.ensures l.invariant.2,
+    let n = c.args.t.now.len / 512 in
+    let counts = c.args.counts.now in
+    let some : 0 < length counts = omega (arith, c.requires) in
+    let long : length (take (n + 1 - 1) (drop 1 (set counts 0 0))) ≡ n =
+    omega (arith, length-take (n + 1 - 1) (drop 1 (set counts 0 0)), length-drop 1 (set counts 0 0), length-set counts 0 0, c.requires) in
+    let whole : length l.count-items ≡ n = omega (arith, long, l.auto.count-items) in (
+      omega (arith, whole, laid-long counts l.count-items (n + 1 - 1) some),
+      λ j h. laid-is counts l.count-items (n + 1 - 1) some c.args.t.now.bytes.now (λ i lt. l.invariant.1 i (omega (arith, long, c.loop-part-test.false))) j (omega arith),
     )

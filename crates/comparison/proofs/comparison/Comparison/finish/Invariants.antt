@@ -1,10 +1,9 @@
-use Rattle.std.proofs.Common.{◌≡◌, true}
-use Rattle.comparison.specs.Comparisons.{InOrder, weighed}
+use Rattle.comparison.specs.Comparisons.{weighed}
 use Rattle.comparison.proofs.Finishing.{Marching}
 use Rattle.comparison.proofs.comparison.Comparison.finish.Given as goal
 
-abbrev pub invariant-loop-s : goal.invariant-loop-s
-invariant-loop-s g l = l.initial.self.progress.begun ≡ true → InOrder l.initial.self → Marching g.A.Store.answers g.B.Store.answers g.M.Measure.amount l.initial.self l.steps l.self
+abbrev pub invariant-loop-steps : goal.invariant-loop-steps
+invariant-loop-steps g l = Marching g.A.Store.answers g.B.Store.answers g.M.Measure.amount l.initial.self l.steps l.self
 
-abbrev pub decreases-loop-s : goal.decreases-loop-s
-decreases-loop-s g l = weighed l.self
+abbrev pub decreases-loop-steps : goal.decreases-loop-steps
+decreases-loop-steps g l = weighed l.self

@@ -1,16 +1,22 @@
-use Rattle.std.proofs.Common.{◌≡◌, ◌∙◌, ap₂}
-use Rattle.board.specs.Morton.{code}
-use Rattle.board.specs.CodeFacts.Codes.{codes_are_exact}
+use Rattle.std.proofs.Common.{ap}
+use Rattle.std.specs.Option.{is_some}
+use Rattle.comparison.specs.declared.fault.Fault.TheVariants.{NeverBegun}
 use Rattle.comparison.specs.Calls.Looks.{look_early}
+use Rattle.comparison.proofs.Refusing.{refused_by}
 use Rattle.comparison.proofs.Calling.{did_nothing, did_look}
 use Rattle.comparison.proofs.comparison.Comparison.look.Goals as goal
 
-pub returns-then-not-self : goal.returns-then-not-self
-returns-then-not-self g c = record { by_the_rule = λ i. did_nothing g.A.Store.answers g.A.Store.facts g.B.Store.answers g.B.Store.facts g.M.Measure.amount g.M.Measure.laws c.args.self.now _ _ i (look_early c.if-not-self.true) }
+pub returns-in_err-record : goal.returns-in_err-record
+returns-in_err-record g c =
+    let q = c.in_err-record.ensures in
+    rw (refused_by c.args.self.now.progress NeverBegun _ _ q.value q.ok_part c.from_residual.ensures.1) (record {
+      by_the_rule = did_nothing g.A.Store.answers g.A.Store.facts g.B.Store.answers g.B.Store.facts g.M.Measure.amount g.M.Measure.laws c.args.self.now _ _ (look_early (ap is_some q.ok_part));
+    })
 
 pub returns : goal.returns
 returns g c =
-    let v = c.args.self.now in
-    let x : code c.from_code.result.x c.from_code.result.y ≡ v.trial.figures.film = ap₂ code c.from_code.ensures.column c.from_code.ensures.row ∙ codes_are_exact.back v.trial.figures.film in
-    let y : code c.from_code-2.result.x c.from_code-2.result.y ≡ v.trial.figures.drawing = ap₂ code c.from_code-2.ensures.column c.from_code-2.ensures.row ∙ codes_are_exact.back v.trial.figures.drawing in
-    record { by_the_rule = λ i. did_look g.A.Store.answers g.A.Store.facts g.B.Store.answers g.B.Store.facts g.M.Measure.amount g.M.Measure.laws v c.high.result c.len.result c.from_code.result c.from_code-2.result i c.if-not-self.false (c.high.ensures.greatest i) x y c.len.ensures.waiting_entries }
+    let f = c.finding-found.ensures in
+    record {
+      by_the_rule = did_look g.A.Store.answers g.A.Store.facts g.B.Store.answers g.B.Store.facts g.M.Measure.amount g.M.Measure.laws c.args.self.now c.in_ok-record.record c.high.result c.len.result c.finding-found.result
+          c.in_ok-record.ensures.ok_part c.high.ensures.greatest f.distance f.film f.drawing c.len.ensures.waiting_entries;
+    }

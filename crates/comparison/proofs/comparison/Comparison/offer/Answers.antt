@@ -1,58 +1,58 @@
-use Rattle.std.proofs.Common.{[], ◌∷◌, sym, refl, subst, arith}
+use Rattle.std.proofs.Common.{[], ◌∷◌, sym, refl, ap, subst, arith}
 use Rattle.std.proofs.lemmas.Bool.{false≢true}
+use Rattle.board.specs.Squares.{OnBoard}
+use Rattle.search.specs.Offers.{weight}
+use Rattle.comparison.specs.Advances.{Offer}
+use Rattle.comparison.specs.Comparisons.{world}
 use Rattle.comparison.specs.Advances.Offer.{put, pass_empty, pass}
 use Rattle.comparison.specs.Calls.{Improves}
-use Rattle.comparison.specs.declared.suspect.Suspect.{Suspect}
-use Rattle.comparison.proofs.Advancing.{queues_none, queues_one, added_weight}
+use Rattle.comparison.proofs.Advancing.{added_board, added_here, added_order, added_weight, queues_none, queues_one}
 use Rattle.comparison.proofs.Diving.{stays_same}
 use Rattle.comparison.proofs.comparison.Comparison.offer.Goals as goal
 
-pub returns-then-film_empty_at : goal.returns-then-film_empty_at
-returns-then-film_empty_at g c = record {
-  lighter = omega arith;
-  offered = λ on free.
-      let v = c.args.self.now in
-      record {
-        es = [];
-        queues = queues_none g.A.Store.answers g.B.Store.answers g.M.Measure.amount v v.trial v.progress (stays_same g.A.Store.answers g.B.Store.answers g.M.Measure.amount v.trial) refl refl;
-        figures = refl;
-        taken = refl;
-        offer = pass_empty (c.if-film_empty_at.ensures.decides.0 refl);
-      };
-}
+pub returns-then-film_empty_at-clause-offered : goal.returns-then-film_empty_at-clause-offered
+returns-then-film_empty_at-clause-offered g c =
+    let v = c.args.self.now in
+    record {
+      es = [];
+      queues = queues_none g.A.Store.answers g.B.Store.answers g.M.Measure.amount v v (stays_same g.A.Store.answers g.B.Store.answers g.M.Measure.amount v.trial) refl refl;
+      figures = refl;
+      offer = pass_empty (c.if-film_empty_at.ensures.decides.0 refl);
+    }
 
-pub returns-then-not-improved_by : goal.returns-then-not-improved_by
-returns-then-not-improved_by g c = record {
-  lighter = omega arith;
-  offered = λ on free.
-      let v = c.args.self.now in
-      let t = c.key_of-key.new.self in
-      let k = c.key_of-key.ensures in
-      record {
-        es = [];
-        queues = queues_none g.A.Store.answers g.B.Store.answers g.M.Measure.amount v t v.progress k.stays refl refl;
-        figures = k.same_figures;
-        taken = refl;
-        offer = pass c.key_of-key.result.0 c.key_of-key.result.1 k.keyed
-            (λ i. false≢true (c.if-not-improved_by.ensures.decides.1 (subst (λ f. Improves f c.key_of-key.result.0 c.first_code.result) (sym k.same_figures) (subst (Improves v.trial.figures c.key_of-key.result.0) (sym c.first_code.ensures.value) i))));
-      };
-}
+pub returns-then-not-improved_by-clause-offered : goal.returns-then-not-improved_by-clause-offered
+returns-then-not-improved_by-clause-offered g c =
+    let v = c.args.self.now in
+    let e = c.suspect_of-suspect.result in
+    let k = c.suspect_of-suspect.ensures in
+    record {
+      es = [];
+      queues = queues_none g.A.Store.answers g.B.Store.answers g.M.Measure.amount v _ k.stays refl refl;
+      figures = k.same_figures;
+      offer = subst (λ q. Offer (world g.A.Store.answers g.B.Store.answers g.M.Measure.amount v) v.trial.figures q []) k.of_square
+          (pass e.key e.partner k.keyed
+          (λ i. false≢true (c.if-not-improved_by.ensures.decides.1 (subst (λ f. Improves f e.key c.start.result) (sym k.same_figures) (subst (Improves v.trial.figures e.key) (sym c.start.ensures.value) i)))));
+    }
 
-pub returns-then-add : goal.returns-then-add
-returns-then-add g c = record {
-  lighter = omega (arith, added_weight c.args.self.now.suspects (record { key = c.key_of-key.result.0; square = c.args.q; partner = c.key_of-key.result.1 }) c.add.new.self c.if-add.ensures.gains_or_full);
-  offered = λ on free.
-      let v = c.args.self.now in
-      let t = c.key_of-key.new.self in
-      let k = c.key_of-key.ensures in
-      let e : Suspect = record { key = c.key_of-key.result.0; square = c.args.q; partner = c.key_of-key.result.1 } in
-      let a = c.if-add.ensures in
-      record {
+pub invariant_of-self-2-clause-in_order : goal.invariant_of-self-2-clause-in_order
+invariant_of-self-2-clause-in_order g c = added_order c.args.self.now.suspects _ c.add.result c.add.new.self c.add.ensures.gains_or_full c.args.self.now.in_order
+
+pub invariant_of-self-2-clause-on_board : goal.invariant_of-self-2-clause-on_board
+invariant_of-self-2-clause-on_board g c = added_board c.args.self.now.suspects _ c.add.result c.add.new.self c.add.ensures.gains_or_full (subst (λ q. OnBoard q.level q.number) (sym c.suspect_of-suspect.ensures.of_square) c.requires.on_board) c.args.self.now.on_board
+
+pub returns : goal.returns
+returns g c =
+    let v = c.args.self.now in
+    let e = c.suspect_of-suspect.result in
+    let k = c.suspect_of-suspect.ensures in
+    let a = added_here v.suspects e c.add.result c.add.new.self c.requires.one_place c.add.ensures.gains_or_full in
+    record {
+      lighter = omega (arith, added_weight v.suspects e c.add.new.self a, ap weight k.of_square);
+      offered = record {
         es = e ∷ [];
-        queues = queues_one g.A.Store.answers g.B.Store.answers g.M.Measure.amount v t e c.add.new.self _ k.stays on a.same_room a.gains_or_full refl c.count_on-self.ensures.value;
+        queues = queues_one g.A.Store.answers g.B.Store.answers g.M.Measure.amount v _ e k.stays c.add.ensures.same_room a refl;
         figures = k.same_figures;
-        taken = refl;
-        offer = put e (λ z. false≢true (c.if-film_empty_at.ensures.decides.1 z)) refl k.keyed
-            (subst (Improves v.trial.figures c.key_of-key.result.0) c.first_code.ensures.value (subst (λ f. Improves f c.key_of-key.result.0 c.first_code.result) k.same_figures (c.if-not-improved_by.ensures.decides.0 refl)));
+        offer = put e (λ z. false≢true (c.if-film_empty_at.ensures.decides.1 z)) k.of_square k.keyed
+            (subst (Improves v.trial.figures e.key) c.start.ensures.value (subst (λ f. Improves f e.key c.start.result) k.same_figures (c.if-not-improved_by.ensures.decides.0 refl)));
       };
-}
+    }

@@ -1,7 +1,7 @@
 use Rattle.std.proofs.Common.{refl}
 use Rattle.std.proofs.HeapSift as sifts
-use Rattle.search.specs.Orders.{turned}
+use Rattle.std.specs.Cmp.{back_total}
 use Rattle.search.proofs.waiting.WaitingList.new.Goals as goal
 
-pub returns : goal.returns
-returns g c = record { nothing_waits = refl; in_order = λ o. sifts.empty (turned o) _ refl; all_places = refl }
+pub returns-clause-in_order : goal.returns-clause-in_order
+returns-clause-in_order g c = sifts.empty (back_total g.met.T.Ord.total) _ refl

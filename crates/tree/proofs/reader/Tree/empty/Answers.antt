@@ -13,12 +13,10 @@ no_count : (j : ℕ) → j ≤ 0 → get_or (0 ∷ []) j 0 ≡ ones_before [] (5
 no_count ℕ.zero h = refl
 no_count (ℕ.suc j) h = absurd (omega arith)
 
-pub invariant_of-result : goal.invariant_of-result
+pub invariant_of-result-3 : goal.invariant_of-result-3
 unfolding demanded
-invariant_of-result c = record {
+invariant_of-result-3 c = record {
   low = lit≤ tt;
-  upper = (refl, lit≤ tt);
-  lower = (refl, lit≤ tt);
   upper_spare = λ p h k. absurd (omega arith);
   lower_spare = λ p h k. no-bit p k;
   valid = (lit< tt, (refl, refl), λ k p h. absurd (omega arith));
