@@ -1,5 +1,5 @@
 -- Squares on the board, their quarters and their first cells.
-use Rattle.std.proofs.Common.{◌≡◌, ℕ, zero, suc, ◌+◌, ◌-◌, ◌*◌, ◌/◌, ◌%◌, ◌^◌, ◌<◌, ◌≤◌, min, sym, refl, ap, ◌∙◌, subst, ⊎_elim, mod-eq_of_lt, mul-lt-mul_of_pos_right, pow-suc, div-mul-le_self, mul-div_cancel, arith, pow-add}
+use Rattle.std.proofs.Common.{◌≡◌, ℕ, zero, suc, ◌+◌, ◌-◌, ◌*◌, ◌/◌, ◌^◌, ◌<◌, ◌≤◌, min, sym, refl, ap, ◌∙◌, subst, ⊎_elim, mul-lt-mul_of_pos_right, pow-suc, div-mul-le_self, mul-div_cancel, arith, pow-add}
 use native.Mathlib.Nat.{pow-le-pow_right, div-eq_of_lt}
 use Rattle.std.proofs.lemmas.Bool.{cases_lt}
 use Rattle.board.specs.SquareOrderFacts.{four_positive}
@@ -31,13 +31,6 @@ four_power zero = refl
 four_power (suc m) =
     let e : 2 * suc m ≡ suc (suc (2 * m)) = omega arith in
     omega (arith, ap (λ x. 2 ^ x) e, pow-suc 2 (suc (2 * m)), pow-suc 2 (2 * m), pow-suc 4 m, four_power m)
-
--- number << 2 level
-pub code_shifted : (m n : ℕ) → OnBoard m n → n * 2 ^ (2 * m) % 2 ^ 64 ≡ n * 4 ^ m
-code_shifted m n b =
-    let e : n * 2 ^ (2 * m) ≡ n * 4 ^ m = ap (λ x. n * x) (four_power m) in
-    let h = code_fits m n b in
-    ap (λ x. x % 2 ^ 64) e ∙ mod-eq_of_lt (omega arith)
 
 -- the first cell of a square is one of its cells, and no later than the others
 pub first_inside : (m n : ℕ) → Inside m n (n * 4 ^ m)

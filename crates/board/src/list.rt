@@ -2,7 +2,7 @@
 ghost use Rattle.std.specs.Prelude.{MatchResult};
 ghost use Rattle.board.specs.Lists.{Rises, ListRefused, list_numbered};
 
-use crate::refusal::Refusal;
+use crate::refusal::{Numbered, Refusal};
 
 // The longest list that is accepted.
 pub const LONGEST: usize = 1_048_576;
@@ -18,14 +18,10 @@ pub enum ListFault {
 impl Refusal for ListFault {
     ghost numbered = { λ f. list_numbered f };
 
-    fn number(&self) -> u8 {
-        7
-    }
-
-    fn place(&self) -> usize {
+    fn numbered(&self) -> Numbered {
         match *self {
-            ListFault::TooLong => 0,
-            ListFault::NotRising(index) => index,
+            ListFault::TooLong => Numbered::at(7, 0),
+            ListFault::NotRising(index) => Numbered::at(7, index),
         }
     }
 }

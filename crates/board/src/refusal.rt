@@ -22,26 +22,34 @@ impl fmt::Display for Numbered {
 
 impl Error for Numbered {}
 
-// Each layer writes its own map of its cases, since the numbers are what it promises.
+impl Numbered {
+    // The number at the place.
+    pub fn at(number: u8, place: usize) -> Numbered
+        ensures both { (result.number ≡ number) × (result.place ≡ place) }
+    {
+        Numbered { number, place }
+    }
+}
+
+// Each layer writes the map of its own cases, since the numbers are what it promises.
 pub trait Refusal {
     // the number and the place of each case
     ghost numbered: { Self → ℕ × ℕ };
 
-    fn number(&self) -> u8
-        ensures number_of_case { result ≡ (numbered self.now).0 };
-
-    // The place, 0 where the case has none.
-    fn place(&self) -> usize
-        ensures place_of_case { result ≡ (numbered self.now).1 };
-
-    // Both.
-    final fn numbered(&self) -> Numbered
+    // The place is 0 where the case has none.
+    fn numbered(&self) -> Numbered
         ensures number_of_case { result.number ≡ (numbered self.now).0 }
-        ensures place_of_case { result.place ≡ (numbered self.now).1 }
+        ensures place_of_case { result.place ≡ (numbered self.now).1 };
+
+    final fn number(&self) -> u8
+        ensures number_of_case { result ≡ (numbered self.now).0 }
     {
-        Numbered {
-            number: self.number(),
-            place: self.place(),
-        }
+        self.numbered().number
+    }
+
+    final fn place(&self) -> usize
+        ensures place_of_case { result ≡ (numbered self.now).1 }
+    {
+        self.numbered().place
     }
 }

@@ -32,6 +32,16 @@ impl Square {
         number: 0,
     };
 
+    // The square of one cell.
+    pub fn cell(code: u32) -> Square
+        ensures one_cell { (result.level ≡ 0) × (result.number ≡ code) }
+    {
+        Square {
+            level: 0,
+            number: code,
+        }
+    }
+
     pub fn on_board(self) -> bool
         ensures decides { Decides result (OnBoard self.level self.number) }
     {
@@ -59,7 +69,7 @@ impl Square {
         if !self.on_board() {
             return None;
         }
-        Some(((self.number as u64) << (2 * self.level)) as u32)
+        Some(self.start() as u32)
     }
 
     // The same of any square: a level above the board's counts as the board's.

@@ -11,8 +11,8 @@ use Rattle.search.specs.WaitingLists.{waiting, room, Added, Taken, Ready, InHeap
 use Rattle.search.specs.declared.waiting.WaitingList.{WaitingList}
 use Rattle.store.specs.declared.store.Answer.{Answer}
 use Rattle.comparison.specs.declared.comparison.Comparison.{Comparison}
+use Rattle.comparison.specs.declared.ground.Ground.{Ground}
 use Rattle.comparison.specs.declared.suspect.Suspect.{Suspect}
-use Rattle.comparison.specs.declared.trial.Trial.{Trial}
 use Rattle.comparison.specs.Advances.{Offer, Queues, Offered, Opened, Handles, Started}
 use Rattle.comparison.specs.Advances.Offer.{put as offer_put, pass_empty as offer_empty, pass as offer_pass}
 use Rattle.board.specs.Squares.{Inside}
@@ -65,26 +65,26 @@ added_weight v e w a = sum_by-IsPermutation (λ s. weight s.square) (e ∷ waiti
 
 module _ {A B M : Type 0} (film : A → ℕ → ℕ → Answer) (drawing : B → ℕ → ℕ → Answer) (amount : M → ℕ → ℕ → ℕ) where
   -- the world stays with so many places too
-  over_any : (n : ℕ) (u v : Trial A B M) → over film drawing amount 0 v ≡ over film drawing amount 0 u → over film drawing amount n v ≡ over film drawing amount n u
+  over_any : (n : ℕ) (u v : Ground A B M) → over film drawing amount 0 v ≡ over film drawing amount 0 u → over film drawing amount n v ≡ over film drawing amount n u
   over_any n u v e =
       ap (λ (w : World). let x : World = record { film = w.film; drawing = w.drawing; measure = w.measure; suspects = n; neighbours = w.neighbours } in x) e
 
-  pub over_places : (n : ℕ) (u v : Trial A B M) → Stays film drawing amount u v → over film drawing amount n v ≡ over film drawing amount n u
+  pub over_places : (n : ℕ) (u v : Ground A B M) → Stays film drawing amount u v → over film drawing amount n v ≡ over film drawing amount n u
   over_places n u v s = over_any n u v s.world
 
   -- nothing was queued
-  pub queues_none : (c d : Comparison A B M) → Stays film drawing amount c.trial d.trial → d.suspects ≡ c.suspects → d.progress ≡ c.progress → Queues film drawing amount c [] d
+  pub queues_none : (c d : Comparison A B M) → Stays film drawing amount c.trial.ground d.trial.ground → d.suspects ≡ c.suspects → d.progress ≡ c.progress → Queues film drawing amount c [] d
   queues_none c d s e p = record {
-    same_world = ap (λ v. over film drawing amount (room v) d.trial) e ∙ over_places (room c.suspects) c.trial d.trial s;
+    same_world = ap (λ v. over film drawing amount (room v) d.trial.ground) e ∙ over_places (room c.suspects) c.trial.ground d.trial.ground s;
     waits = subst (λ v. IsPermutation (waiting v) (waiting c.suspects)) (sym e) (IsPermutation-refl (waiting c.suspects));
     progress = p;
   }
 
   -- one square was queued
-  pub queues_one : (c d : Comparison A B M) (e : Suspect) → Stays film drawing amount c.trial d.trial → room d.suspects ≡ room c.suspects → Added before c.suspects e true d.suspects → d.progress ≡ c.progress
+  pub queues_one : (c d : Comparison A B M) (e : Suspect) → Stays film drawing amount c.trial.ground d.trial.ground → room d.suspects ≡ room c.suspects → Added before c.suspects e true d.suspects → d.progress ≡ c.progress
       → Queues film drawing amount c (e ∷ []) d
   queues_one c d e s places a p = record {
-    same_world = ap (λ n. over film drawing amount n d.trial) places ∙ over_places (room c.suspects) c.trial d.trial s;
+    same_world = ap (λ n. over film drawing amount n d.trial.ground) places ∙ over_places (room c.suspects) c.trial.ground d.trial.ground s;
     waits = IsPermutation-sym (e ∷ waiting c.suspects) (waiting d.suspects) a.1;
     progress = p;
   }
@@ -134,14 +134,14 @@ module _ {A B M : Type 0} (film : A → ℕ → ℕ → Answer) (drawing : B →
   handles_dropped c s n = record { es = []; queues = queues_none c c (record { world = refl; idle = λ e. e }) refl refl; handled = dropped n }
 
   module _ (c d : Comparison A B M) (s : Suspect) (e : d.suspects ≡ c.suspects) (p : d.progress ≡ c.progress) (i : Improves c.trial.figures s.key (first_code s.square)) where
-    pub handles_settled : Stays film drawing amount c.trial d.trial → d.trial.figures ≡ record { low = s.key; film = s.square.number; drawing = s.partner } → s.square.level ≡ 0 → Handles film drawing amount c s d
+    pub handles_settled : Stays film drawing amount c.trial.ground d.trial.ground → d.trial.figures ≡ record { low = s.key; film = s.square.number; drawing = s.partner } → s.square.level ≡ 0 → Handles film drawing amount c s d
     handles_settled st f z = record {
       es = [];
       queues = queues_none c d st e p;
       handled = subst (Handled (world film drawing amount c) s (room c.suspects - length (waiting c.suspects)) c.trial.figures []) (sym f) (settled z i);
     }
 
-    pub handles_sunk : Stays film drawing amount c.trial d.trial → 0 < s.square.level → room c.suspects - length (waiting c.suspects) < 4
+    pub handles_sunk : Stays film drawing amount c.trial.ground d.trial.ground → 0 < s.square.level → room c.suspects - length (waiting c.suspects) < 4
         → Tried (world film drawing amount c) (Inside s.square.level s.square.number) c.trial.figures d.trial.figures
         → Handles film drawing amount c s d
     handles_sunk st z few tr = record { es = []; queues = queues_none c d st e p; handled = sunk z i few tr }
@@ -161,17 +161,17 @@ module _ {A B M : Type 0} (film : A → ℕ → ℕ → Answer) (drawing : B →
   handles_grow c d s h = omega (arith, length_permutation (waiting d.suspects) (h.es ++ waiting c.suspects) h.queues.waits, length-append h.es (waiting c.suspects))
 
   -- the board is the only square that waits
-  pub started : (c d : Comparison A B M) (u t : Trial A B M) (v : WaitingList Suspect) (b : Bool) (a : ℕ) (e : Suspect)
-      → Stays film drawing amount c.trial u → Stays film drawing amount u t → over film drawing amount 0 d.trial ≡ over film drawing amount 0 t
+  pub started : (c d : Comparison A B M) (u t : Ground A B M) (v : WaitingList Suspect) (b : Bool) (a : ℕ) (e : Suspect)
+      → Stays film drawing amount c.trial.ground u → Stays film drawing amount u t → over film drawing amount 0 d.trial.ground ≡ over film drawing amount 0 t
       → KeyedAt (world film drawing amount c) 0 a d.trial.figures.low d.trial.figures.drawing → d.trial.figures.film ≡ a → Right (over film drawing amount (room c.suspects) u) e → e.square ≡ record { level = 16; number = 0 }
       → waiting v ≡ [] → room v ≡ room c.suspects → Added before v e b d.suspects → room d.suspects ≡ room v → 0 < room c.suspects
       → (state d).begun ≡ true → (state d).queued ≡ 1 → (state d).taken ≡ 0
       → Started film drawing amount c a d
   started c d u t v b a e s s' same key witness right whole empty places add places' some x y z = record {
     same_world =
-        ap (λ n. over film drawing amount n d.trial) (places' ∙ places)
-        ∙ over_any (room c.suspects) t d.trial same
-        ∙ over_places (room c.suspects) u t s' ∙ over_places (room c.suspects) c.trial u s;
+        ap (λ n. over film drawing amount n d.trial.ground) (places' ∙ places)
+        ∙ over_any (room c.suspects) t d.trial.ground same
+        ∙ over_places (room c.suspects) u t s' ∙ over_places (room c.suspects) c.trial.ground u s;
     witness = witness;
     partner = key;
     begun = x;
@@ -180,5 +180,5 @@ module _ {A B M : Type 0} (film : A → ℕ → ℕ → Answer) (drawing : B →
     board = e;
     waits = shuffled_one e (waiting d.suspects) (subst (λ xs. IsPermutation (e ∷ xs) (waiting d.suspects)) empty (added_here v e b d.suspects (omega (arith, ap length empty)) add).1);
     whole = whole;
-    right = subst (λ q. Right q e) (over_places (room c.suspects) c.trial u s) right;
+    right = subst (λ q. Right q e) (over_places (room c.suspects) c.trial.ground u s) right;
   }

@@ -66,7 +66,7 @@ state_one {A} {B} {M} c d t p w =
 
 module _ {A B M : Type 0} (film : A → ℕ → ℕ → Answer) (ff : (a : A) → StoreFacts (film a)) (drawing : B → ℕ → ℕ → Answer) (df : (b : B) → StoreFacts (drawing b)) (amount : M → ℕ → ℕ → ℕ) (mf : (m : M) → MeasureLaws (amount m)) where
   pub facts : (c : Comparison A B M) → Facts (world film drawing amount c)
-  facts c = record { film = ff c.trial.film; drawing = df c.trial.drawing; measure = mf c.trial.measure }
+  facts c = record { film = ff c.trial.ground.film; drawing = df c.trial.ground.drawing; measure = mf c.trial.ground.measure }
 
   pub did : (c c' : Comparison A B M) (call : Call) (o : Outcome) → world film drawing amount c' ≡ world film drawing amount c → Does (world film drawing amount c) (state c) call (said o) (state c') → Did film drawing amount c call o c'
   did c c' call o e d = record { same_world = e; does = d; keeps = λ r. one_more (world film drawing amount c) (facts c) (state c) (state c') call (said o) d r }
@@ -75,10 +75,10 @@ module _ {A B M : Type 0} (film : A → ℕ → ℕ → Answer) (ff : (a : A) �
   pub did_nothing : (c : Comparison A B M) (call : Call) (o : Outcome) → Does (world film drawing amount c) (state c) call (said o) (state c) → Did film drawing amount c call o c
   did_nothing c call o d = did c c call o refl d
 
-  pub did_begin : (c c' : Comparison A B M) (a e : ℕ) → 0 < room c.suspects → 0 < room c.trial.neighbours → FirstHeld (film c.trial.film) a → Holds (drawing c.trial.drawing) e → Started film drawing amount c a c' → Did film drawing amount c Begin Begun c'
+  pub did_begin : (c c' : Comparison A B M) (a e : ℕ) → 0 < room c.suspects → 0 < room c.trial.ground.neighbours → FirstHeld (film c.trial.ground.film) a → Holds (drawing c.trial.ground.drawing) e → Started film drawing amount c a c' → Did film drawing amount c Begin Begun c'
   did_begin c c' a e h h' f o s =
       did c c' Begin Begun s.same_world (begins e h h' o (record {
-        first = subst (FirstHeld (film c.trial.film)) (sym s.witness) f;
+        first = subst (FirstHeld (film c.trial.ground.film)) (sym s.witness) f;
         partner = subst (λ x. KeyedAt (world film drawing amount c) 0 x c'.trial.figures.low c'.trial.figures.drawing) (sym s.witness) s.partner;
         begun = s.begun;
         queued = s.queued;
@@ -92,7 +92,7 @@ module _ {A B M : Type 0} (film : A → ℕ → ℕ → Answer) (ff : (a : A) �
   -- the rest is the comparison without what was taken
   module _ (c rest : Comparison A B M) (r : Record) (b : c.progress ≡ Some r) (places : room rest.suspects ≡ room c.suspects) (u : rest.trial ≡ c.trial) (p : rest.progress ≡ c.progress) where
     same : world film drawing amount rest ≡ world film drawing amount c
-    same = ap₂ (λ n t. over film drawing amount n t) places u
+    same = ap₂ (λ n t. over film drawing amount n t.ground) places u
 
     -- d is what became of the rest, and e is d with the new record
     pub did_step : (s : Suspect) (d e : Comparison A B M) (q : Record) → Taken before c.suspects (Some s) rest.suspects → Handles film drawing amount rest s d
@@ -101,7 +101,7 @@ module _ {A B M : Type 0} (film : A → ℕ → ℕ → Answer) (ff : (a : A) �
         → Did film drawing amount c Step Stepped e
     did_step s d e q t x te se pe more one =
         let first = all_shuffled (λ y. is_lt (before y s) ≡ false) (waiting c.suspects) (s ∷ waiting rest.suspects) t.0 (t.1 c.in_order).1 in
-        did c e Step Stepped (ap₂ (λ v t. over film drawing amount (room v) t) se te ∙ x.queues.same_world ∙ same)
+        did c e Step Stepped (ap₂ (λ v t. over film drawing amount (room v) t.ground) se te ∙ x.queues.same_world ∙ same)
         (steps (ap is_some b) (record {
           taken_one = s;
           queued_now = x.es;
@@ -126,10 +126,10 @@ module _ {A B M : Type 0} (film : A → ℕ → ℕ → Answer) (ff : (a : A) �
         (subst (λ st. Steps (world film drawing amount c) (state c) (refused 16 0) st) (state_one c rest (sym u) (sym p) (t.0 ∙ sym t.1)) (step_late (ap is_some b) t.0))
 
   pub did_probe : (c d : Comparison A B M) (cell : Cell) → (state c).begun ≡ true → InFilm (world film drawing amount c) (code_of cell)
-      → Stays film drawing amount c.trial d.trial → d.suspects ≡ c.suspects → d.progress ≡ c.progress → Tried (world film drawing amount c) (λ x. x ≡ code_of cell) c.trial.figures d.trial.figures
+      → Stays film drawing amount c.trial.ground d.trial.ground → d.suspects ≡ c.suspects → d.progress ≡ c.progress → Tried (world film drawing amount c) (λ x. x ≡ code_of cell) c.trial.figures d.trial.figures
       → Did film drawing amount c (Probe cell) Probed d
   did_probe c d cell b o s e p t =
-      did c d (Probe cell) Probed (ap (λ v. over film drawing amount (room v) d.trial) e ∙ over_places film drawing amount (room c.suspects) c.trial d.trial s)
+      did c d (Probe cell) Probed (ap (λ v. over film drawing amount (room v) d.trial.ground) e ∙ over_places film drawing amount (room c.suspects) c.trial.ground d.trial.ground s)
       (subst (λ st. Probes (world film drawing amount c) (state c) (code_of cell) probed st) left (probes b o t))
     where
       before : State

@@ -10,6 +10,7 @@ use Rattle.store.specs.Stores.{counts, Holds, StoreFacts}
 use Rattle.store.specs.declared.store.Answer.{Answer}
 use Rattle.store.specs.declared.store.Answer.TheVariants.{Empty}
 use Rattle.store.proofs.Sounds.{empty_holds_none}
+use Rattle.comparison.specs.declared.ground.Ground.{Ground}
 use Rattle.comparison.specs.declared.record.Figures.{Figures}
 use Rattle.comparison.specs.declared.trial.Trial.{Trial}
 use Rattle.comparison.specs.Calls.{Improves, Source, Tried}
@@ -33,26 +34,26 @@ pub cells_under : (l n q : ℕ) → Inside l n q → Under 0 l n q
 cells_under l n q i = let e : l ≡ l - 0 = omega arith in subst (λ x. Inside x n q) e i
 
 module _ {A B M : Type 0} (film : A → ℕ → ℕ → Answer) (drawing : B → ℕ → ℕ → Answer) (amount : M → ℕ → ℕ → ℕ) where
-  pub stays_same : (u : Trial A B M) → Stays film drawing amount u u
+  pub stays_same : (u : Ground A B M) → Stays film drawing amount u u
   stays_same u = record { world = refl; idle = λ e. e }
 
-  pub stays_onward : {u v w : Trial A B M} → Stays film drawing amount u v → Stays film drawing amount v w → Stays film drawing amount u w
+  pub stays_onward : {u v w : Ground A B M} → Stays film drawing amount u v → Stays film drawing amount v w → Stays film drawing amount u w
   stays_onward a b = record { world = b.world ∙ a.world; idle = λ e. b.idle (a.idle e) }
 
   abbrev Meets : Trial A B M → Square → Bool → Trial A B M → Type 0
   Meets v s r w = Met (floor film drawing amount) (since film drawing amount) (done film drawing amount) (comes film drawing amount) v s r w
 
   -- a square larger than a cell: where the walk does not go on, it is empty
-  pub meets_square : (v : Trial A B M) (s : Square) (on : Bool) → StoreFacts (film v.film) → s.level ≤ 16 → (on ≡ false → film v.film s.level s.number ≡ Empty) → Meets v s on v
-  meets_square v s on f h d = record { later = later_same v; done_below = λ e q u i o k p r im. empty_holds_none (film v.film) f s.level s.number q h (d e) (under_cells s.level s.number q u) o }
+  pub meets_square : (v : Trial A B M) (s : Square) (on : Bool) → StoreFacts (film v.ground.film) → s.level ≤ 16 → (on ≡ false → film v.ground.film s.level s.number ≡ Empty) → Meets v s on v
+  meets_square v s on f h d = record { later = later_same v; done_below = λ e q u i o k p r im. empty_holds_none (film v.ground.film) f s.level s.number q h (d e) (under_cells s.level s.number q u) o }
 
   -- a cell that is not held
-  pub meets_empty : (v : Trial A B M) (s : Square) → s.level ≤ 0 → counts (film v.film s.level s.number) ≡ false → Meets v s false v
+  pub meets_empty : (v : Trial A B M) (s : Square) → s.level ≤ 0 → counts (film v.ground.film s.level s.number) ≡ false → Meets v s false v
   meets_empty v s h n = record {
     later = later_same v;
     done_below = λ e q u i o k p r im.
         let z : s.level ≡ 0 = omega arith in
-        both_ways (counts (film v.film 0 s.number)) (subst (λ l. counts (film v.film l s.number) ≡ false) z n) (subst (λ x. Holds (film v.film) x) (under_one s.level s.number q h u) o);
+        both_ways (counts (film v.ground.film 0 s.number)) (subst (λ l. counts (film v.ground.film l s.number) ≡ false) z n) (subst (λ x. Holds (film v.ground.film) x) (under_one s.level s.number q h u) o);
   }
 
   -- a cell of another square
@@ -62,11 +63,11 @@ module _ {A B M : Type 0} (film : A → ℕ → ℕ → Answer) (drawing : B →
     done_below = λ e q u i o k p r im. n (subst (Inside v.square.level v.square.number) (under_one s.level s.number q h u) i);
   }
 
-  module _ (v w : Trial A B M) (n : ℕ) (st : Stays film drawing amount v w) (sq : w.square ≡ v.square) (t : Tried (over film drawing amount 0 v) (λ x. x ≡ n) v.figures w.figures) where
+  module _ (v w : Trial A B M) (n : ℕ) (st : Stays film drawing amount v.ground w.ground) (sq : w.square ≡ v.square) (t : Tried (over film drawing amount 0 v.ground) (λ x. x ≡ n) v.figures w.figures) where
     worse : (k c : ℕ) → Improves w.figures k c → Improves v.figures k c
     worse k c i = go t.source
       where
-        go : Source (over film drawing amount 0 v) (λ x. x ≡ n) v.figures w.figures → Improves v.figures k c
+        go : Source (over film drawing amount 0 v.ground) (λ x. x ≡ n) v.figures w.figures → Improves v.figures k c
         go (inl e) = subst (λ f. Improves f k c) e i
         go (inr s) = improves_onward v.figures w.figures k c s.3 i
 
@@ -81,12 +82,12 @@ module _ {A B M : Type 0} (film : A → ℕ → ℕ → Answer) (drawing : B →
       source = go t.source;
     }
       where
-        first : Source (over film drawing amount 0 u) (Inside u.square.level u.square.number) u.figures v.figures → Improves v.figures w.figures.low w.figures.film → Improves u.figures w.figures.low w.figures.film
+        first : Source (over film drawing amount 0 u.ground) (Inside u.square.level u.square.number) u.figures v.figures → Improves v.figures w.figures.low w.figures.film → Improves u.figures w.figures.low w.figures.film
         first (inl e) im = subst (λ f. Improves f w.figures.low w.figures.film) e im
         first (inr s) im = improves_onward u.figures v.figures w.figures.low w.figures.film s.3 im
 
-        go : Source (over film drawing amount 0 v) (λ x. x ≡ n) v.figures w.figures → Source (over film drawing amount 0 u) (Inside u.square.level u.square.number) u.figures w.figures
-        go (inl e) = subst (Source (over film drawing amount 0 u) (Inside u.square.level u.square.number) u.figures) (sym e) d.source
+        go : Source (over film drawing amount 0 v.ground) (λ x. x ≡ n) v.figures w.figures → Source (over film drawing amount 0 u.ground) (Inside u.square.level u.square.number) u.figures w.figures
+        go (inl e) = subst (Source (over film drawing amount 0 u.ground) (Inside u.square.level u.square.number) u.figures) (sym e) d.source
         go (inr s) = inr (
           subst (λ s. Inside s.level s.number w.figures.film) d.square (subst (Inside v.square.level v.square.number) (sym s.0) i),
           subst (λ x. InFilm x w.figures.film) d.stays.world s.1,
@@ -105,12 +106,12 @@ module _ {A B M : Type 0} (film : A → ℕ → ℕ → Answer) (drawing : B →
   -- the walk is over
   module _ (u v : Trial A B M) (met : Meets u u.square false v) where
     dived : Dived film drawing amount u v
-    dived = met.later.from u (record { stays = stays_same u; square = refl; source = inl refl })
+    dived = met.later.from u (record { stays = stays_same u.ground; square = refl; source = inl refl })
 
-    pub walked_stays : Stays film drawing amount u v
+    pub walked_stays : Stays film drawing amount u.ground v.ground
     walked_stays = dived.stays
 
-    pub walked_tried : (n : ℕ) → Tried (over film drawing amount n u) (Inside u.square.level u.square.number) u.figures v.figures
+    pub walked_tried : (n : ℕ) → Tried (over film drawing amount n u.ground) (Inside u.square.level u.square.number) u.figures v.figures
     walked_tried n = record {
       source = dived.source;
       best = λ c k p i o r im.

@@ -48,7 +48,7 @@ module _ {A B M : Type 0} where
 
   module _ (film : A → ℕ → ℕ → Answer) (drawing : B → ℕ → ℕ → Answer) (amount : M → ℕ → ℕ → ℕ) where
     abbrev pub world : Comparison A B M → World
-    world c = over film drawing amount (room c.suspects) c.trial
+    world c = over film drawing amount (room c.suspects) c.trial.ground
 
     -- what a call does: it stays over the same world, says what the relation of calls says, and leaves that state; where calls on a fresh comparison led here, it keeps the law
     pub record Did (c : Comparison A B M) (call : Call) (o : Outcome) (c' : Comparison A B M) : Type 0 where

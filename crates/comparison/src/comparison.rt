@@ -8,6 +8,7 @@ ghost use Rattle.comparison.specs.Waits.{On};
 
 use crate::call::Sight;
 use crate::fault::Fault;
+use crate::ground::Ground;
 use crate::record::{Figures, Record, count_on};
 use crate::suspect::Suspect;
 use crate::trial::Trial;
@@ -33,7 +34,7 @@ pub struct Comparison<'a, A, B, M> {
     // they are squares of the board
     pub ghost on_board: { AllByRecursion On (waiting suspects) } by { Prim.hlevel props },
     // between calls, no neighbour waits
-    pub ghost idle: { waiting trial.neighbours ≡ [] } by { Prim.hlevel props },
+    pub ghost idle: { waiting trial.ground.neighbours ≡ [] } by { Prim.hlevel props },
 }
 
 impl<'a, A: Store, B: Store, M: Measure> Comparison<'a, A, B, M> {
@@ -61,14 +62,13 @@ impl<'a, A: Store, B: Store, M: Measure> Comparison<'a, A, B, M> {
     {
         Comparison {
             trial: Trial {
-                film,
-                drawing,
-                measure,
-                neighbours: WaitingList::new(neighbours),
-                square: Square {
-                    level: 0,
-                    number: 0,
+                ground: Ground {
+                    film,
+                    drawing,
+                    measure,
+                    neighbours: WaitingList::new(neighbours),
                 },
+                square: Square::default(),
                 figures: Figures::default(),
             },
             suspects: WaitingList::new(suspects),
@@ -77,16 +77,17 @@ impl<'a, A: Store, B: Store, M: Measure> Comparison<'a, A, B, M> {
     }
 
     // Queues a square where A does not call it empty and it improves.
+    // The square is on the board by the call, since a query takes any square and its type cannot say so.
     fn offer(&mut self, q: Square)
         requires on_board { OnBoard q.level q.number }
         requires one_place { length (waiting self.old.suspects) < room self.old.suspects }
         ensures offered { Offered A.Store.answers B.Store.answers M.Measure.amount self.old q self.new }
         ensures lighter { weighed self.new ≤ weighed self.old + weight q }
     {
-        if self.trial.film_empty_at(q) {
+        if self.trial.ground.film_empty_at(q) {
             return;
         }
-        let suspect = self.trial.suspect_of(q);
+        let suspect = self.trial.ground.suspect_of(q);
         if !self
             .trial
             .figures
@@ -98,6 +99,7 @@ impl<'a, A: Store, B: Store, M: Measure> Comparison<'a, A, B, M> {
     }
 
     // Offers the quarters of a square, in order.
+    // The square is on the board by the call, since a query takes any square and its type cannot say so.
     fn open(&mut self, s: Square)
         requires on_board { OnBoard s.level s.number }
         requires no_cell { 1 ≤ s.level }
@@ -139,11 +141,11 @@ impl<'a, A: Store, B: Store, M: Measure> Comparison<'a, A, B, M> {
         if self.suspects.capacity() == 0 {
             return Err(Fault::NoSuspectPlace);
         }
-        if self.trial.neighbours.capacity() == 0 {
+        if self.trial.ground.neighbours.capacity() == 0 {
             return Err(Fault::NoNeighbourPlace);
         }
-        let film = first_cell(&self.trial.film).ok_or(Fault::NoFilmCell)?;
-        first_cell(&self.trial.drawing).ok_or(Fault::NoDrawingCell)?;
+        let film = first_cell(&self.trial.ground.film).ok_or(Fault::NoFilmCell)?;
+        first_cell(&self.trial.ground.drawing).ok_or(Fault::NoDrawingCell)?;
         self.start(film.code());
         Ok(())
     }
@@ -153,8 +155,8 @@ impl<'a, A: Store, B: Store, M: Measure> Comparison<'a, A, B, M> {
         requires one_place { 0 < room self.old.suspects }
         ensures started { Started A.Store.answers B.Store.answers M.Measure.amount self.old film self.new }
     {
-        self.trial.figures = self.trial.figures_of(film);
-        let board = self.trial.suspect_of(Square::BOARD);
+        self.trial.figures = self.trial.ground.figures_of(film);
+        let board = self.trial.ground.suspect_of(Square::BOARD);
         self.suspects.clear();
         self.suspects.add(board);
         self.progress = Some(Record {
@@ -181,12 +183,10 @@ impl<'a, A: Store, B: Store, M: Measure> Comparison<'a, A, B, M> {
     pub fn probe(&mut self, cell: Cell) -> Result<(), Fault>
         ensures by_the_rule { Did A.Store.answers B.Store.answers M.Measure.amount self.old (probe_call cell) (told (λ _. as_probed) result) self.new }
     {
-        if !holds(&self.trial.film, cell) {
+        if !holds(&self.trial.ground.film, cell) {
             return Err(Fault::NotHeld);
         }
-        if self.progress.is_none() {
-            return Err(Fault::NeverBegun);
-        }
+        self.progress.ok_or(Fault::NeverBegun)?;
         self.trial.try_cell(cell.code());
         Ok(())
     }
@@ -220,9 +220,7 @@ impl<'a, A: Store, B: Store, M: Measure> Comparison<'a, A, B, M> {
     pub fn result(&self) -> Result<Finding, Fault>
         ensures by_the_rule { Did A.Store.answers B.Store.answers M.Measure.amount self.now result_call (told as_answered result) self.now }
     {
-        if self.progress.is_none() {
-            return Err(Fault::NeverBegun);
-        }
+        self.progress.ok_or(Fault::NeverBegun)?;
         let count = self.suspects.len();
         if count > 0 {
             return Err(Fault::Waits(count));
@@ -234,9 +232,7 @@ impl<'a, A: Store, B: Store, M: Measure> Comparison<'a, A, B, M> {
     pub fn finish(&mut self) -> Result<u64, Fault>
         ensures steps_to_the_end { Ended A.Store.answers B.Store.answers M.Measure.amount self.old result self.new }
     {
-        if self.progress.is_none() {
-            return Err(Fault::NeverBegun);
-        }
+        self.progress.ok_or(Fault::NeverBegun)?;
         let mut steps = 0;
         while self.step().is_ok() {
             steps = count_on(steps, 1);

@@ -1,7 +1,7 @@
 // Why a call of a comparison is refused.
 ghost use Rattle.comparison.specs.Faults.{fault_numbered};
 
-use board::refusal::Refusal;
+use board::refusal::{Numbered, Refusal};
 
 #[derive(Clone, Copy, PartialEq, Eq, Debug)]
 pub enum Fault {
@@ -28,23 +28,16 @@ pub enum Fault {
 impl Refusal for Fault {
     ghost numbered = { λ f. fault_numbered f };
 
-    fn number(&self) -> u8 {
+    fn numbered(&self) -> Numbered {
         match *self {
-            Fault::NoFilmCell => 11,
-            Fault::NoDrawingCell => 12,
-            Fault::NoSuspectPlace | Fault::NoNeighbourPlace => 13,
-            Fault::NotHeld => 15,
-            Fault::NothingWaits | Fault::NeverBegun => 16,
-            Fault::Waits(_) => 17,
-            Fault::StackFull => 18,
-        }
-    }
-
-    fn place(&self) -> usize {
-        match *self {
-            Fault::NoNeighbourPlace => 1,
-            Fault::Waits(count) => count,
-            _ => 0,
+            Fault::NoFilmCell => Numbered::at(11, 0),
+            Fault::NoDrawingCell => Numbered::at(12, 0),
+            Fault::NoSuspectPlace => Numbered::at(13, 0),
+            Fault::NoNeighbourPlace => Numbered::at(13, 1),
+            Fault::NotHeld => Numbered::at(15, 0),
+            Fault::NothingWaits | Fault::NeverBegun => Numbered::at(16, 0),
+            Fault::Waits(count) => Numbered::at(17, count),
+            Fault::StackFull => Numbered::at(18, 0),
         }
     }
 }

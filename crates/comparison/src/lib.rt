@@ -4,6 +4,7 @@
 pub mod call;
 pub mod comparison;
 pub mod fault;
+mod ground;
 pub mod record;
 pub mod run;
 pub mod suspect;

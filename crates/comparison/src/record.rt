@@ -11,7 +11,8 @@ use board::measure::Amount;
 // Both counts stop here.
 pub const COUNT_LIMIT: u64 = 1_099_511_627_776;
 
-// Low, and the pair that shows it: the witness and its partner, by their codes.
+// Low, and the pair that shows it: the witness and its partner.
+// By codes and not as a Finding: a code is compared with the first codes of squares.
 #[derive(Clone, Copy, PartialEq, Eq, Default, Debug)]
 pub struct Figures {
     pub low: Amount,

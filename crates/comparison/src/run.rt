@@ -44,6 +44,7 @@ impl<'a, A: Store, B: Store, M: Measure> Comparison<'a, A, B, M> {
         ensures by_the_rules { IfOk result (λ v. Ran A.Store.answers B.Store.answers M.Measure.amount self.old calls.now v.items self.new) }
     {
         let mut outcomes = Vec::new(heap);
+        // A loop, since a proof knows nothing of what a closure changes.
         for call in calls {
             let outcome = self.call(*call);
             outcomes.push(outcome)?;

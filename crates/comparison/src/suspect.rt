@@ -26,7 +26,8 @@ impl PartialOrd for Suspect {
     }
 }
 
-// The greater key comes first, which a derive cannot say, then the square that comes first, then the smaller partner.
+// By the key, then the square, then the partner.
+// The greater key comes first: a derive would say so only of a key wrapped in `Reverse`, which each reader would take off.
 impl Ord for Suspect {
     ghost cmp = { before };
 

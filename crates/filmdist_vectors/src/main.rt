@@ -1,7 +1,7 @@
 // Runs cases from outside: each line of the input has two films in hexadecimal, and the line that filmdist prints for them is written.
 #![tactic(auto)]
 
-use anyhow::anyhow;
+use anyhow::Context;
 use board::measure::Squared;
 use job::line::film_line;
 use samples::films::film_of;
@@ -11,9 +11,8 @@ fn run(rt: &HostRuntime) -> anyhow::Result<()> {
     let heap = rt.alloc();
     for line in BufReader::new(heap, rt.stdin())?.lines(heap) {
         let line = line?;
-        let Some((film, drawing)) = line.as_str().split_once(' ') else {
-            return Err(anyhow!("a line has no two films"));
-        };
+        let films = line.as_str().split_once(' ');
+        let (film, drawing) = films.context("a line has no two films")?;
         let film = film_of(heap, film)?;
         let drawing = film_of(heap, drawing)?;
         rt.print(film_line(heap, film.as_slice(), drawing.as_slice(), &Squared)?)?;

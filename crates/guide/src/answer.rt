@@ -8,6 +8,7 @@ use comparison::call::{Outcome, Sight};
 use comparison::fault::Fault;
 use std::alloc::{AllocError, Global};
 
+// No Display of a sight or an outcome: the words are the script's, and the types are the comparison's.
 fn look_line(heap: Global, sight: Sight) -> Result<String, AllocError>
     ensures { IfOk result (λ t. string_bytes t ≡ answer_of (of_look sight)) }
 {

@@ -30,6 +30,7 @@ fn store_of(codes: &[u32]) -> CodeList<'_>
 }
 
 // The answers to the commands over two stores.
+// The arguments go no further together: both films are read first, the setting makes the comparison, and the commands drive it.
 fn answers_over(
     heap: Global,
     film: CodeList,

@@ -43,6 +43,7 @@ impl<'s, 'a, A: Store, B: Store, M: Measure> Session<'s, 'a, A, B, M> {
     // A command is a value, since it is read from a script, so a match tells which it is.
     fn obey(&mut self, command: Command) -> Result<(), AllocError> {
         match command {
+            // A list of one, so that what is promised of a log holds of a script.
             Command::Call(call) => self.calls(&[call]),
             Command::Steps(count) => self.steps(count),
             Command::Run => self.run(),

@@ -31,6 +31,7 @@ impl<F> From<AllocError> for Failure<F> {
     }
 }
 
+// What `?` takes of a push, which hands its value back.
 impl<F, T: Drop> From<NotPlaced<T>> for Failure<F> {
     ghost from_gives = { λ _ r. r ≡ NoMemory };
 

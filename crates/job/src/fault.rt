@@ -7,7 +7,7 @@ ghost use Rattle.job.specs.declared.fault.PartFault.TheVariants.{Records, List, 
 use crate::failure::Failure;
 use crate::records::RecordsFault;
 use board::list::ListFault;
-use board::refusal::Refusal;
+use board::refusal::{Numbered, Refusal};
 use board::side::Side;
 use scan::fault::ScanFault;
 
@@ -22,19 +22,11 @@ pub enum PartFault {
 impl Refusal for PartFault {
     ghost numbered = { λ f. part_numbered f };
 
-    fn number(&self) -> u8 {
+    fn numbered(&self) -> Numbered {
         match self {
-            PartFault::Records(fault) => fault.number(),
-            PartFault::List(fault) => fault.number(),
-            PartFault::Comparison(fault) => fault.number(),
-        }
-    }
-
-    fn place(&self) -> usize {
-        match self {
-            PartFault::Records(fault) => fault.place(),
-            PartFault::List(fault) => fault.place(),
-            PartFault::Comparison(fault) => fault.place(),
+            PartFault::Records(fault) => fault.numbered(),
+            PartFault::List(fault) => fault.numbered(),
+            PartFault::Comparison(fault) => fault.numbered(),
         }
     }
 }
@@ -65,12 +57,8 @@ pub struct JobFault {
 impl Refusal for JobFault {
     ghost numbered = { λ f. job_numbered f };
 
-    fn number(&self) -> u8 {
-        self.fault.number()
-    }
-
-    fn place(&self) -> usize {
-        self.fault.place()
+    fn numbered(&self) -> Numbered {
+        self.fault.numbered()
     }
 }
 

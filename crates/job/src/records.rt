@@ -3,7 +3,7 @@ ghost use Rattle.std.specs.Prelude.{◌≡◌, IfOk, MatchResult};
 ghost use Rattle.job.specs.Records.{records, code_of_record, Sized, RecordsRefused, records_numbered};
 
 use board::cell::Cell;
-use board::refusal::Refusal;
+use board::refusal::{Numbered, Refusal};
 use std::alloc::{AllocError, Global};
 
 // The bytes of one record.
@@ -22,12 +22,8 @@ pub enum RecordsFault {
 impl Refusal for RecordsFault {
     ghost numbered = { λ f. records_numbered f };
 
-    fn number(&self) -> u8 {
-        10
-    }
-
-    fn place(&self) -> usize {
-        0
+    fn numbered(&self) -> Numbered {
+        Numbered::at(10, 0)
     }
 }
 
@@ -61,5 +57,5 @@ pub fn codes_of(heap: Global, bytes: &[u8]) -> Result<Vec<u32>, AllocError>
     ensures codes_of_the_records { IfOk result (λ v. v.items ≡ records bytes.now) }
 {
     let (whole, _) = bytes.as_chunks::<RECORD>();
-    whole.iter().map(|record| code_of(record)).collect(heap)
+    whole.iter().map(code_of).collect(heap)
 }

@@ -67,7 +67,7 @@ fn answers<S: Store>(
 // How many cells of the square the store holds, of those in the corner.
 fn held<S: Store>(store: &S, square: Square) -> usize {
     (0..CELLS)
-        .map(|code| Cell::from_code(code))
+        .map(Cell::from_code)
         .filter(|cell| square.holds(*cell) && holds(store, *cell))
         .count()
 }

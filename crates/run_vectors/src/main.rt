@@ -1,7 +1,7 @@
 // Replays cases from outside: each has a measure, the places of both lists, two films in hexadecimal, and calls; the answer to each call is written.
 #![tactic(auto)]
 
-use anyhow::anyhow;
+use anyhow::{Context, anyhow};
 use guide::films::{Setting, guide};
 use guide::kind::Kind;
 use guide::script::{Command, read_line};
@@ -70,6 +70,7 @@ impl Case {
 
 fn run(rt: &HostRuntime) -> anyhow::Result<()> {
     let heap = rt.alloc();
+    // a line in front of the first case is answered too, so there is a case from the start
     let setting = Setting {
         kind: Kind::Square,
         suspects: 0,
@@ -80,9 +81,7 @@ fn run(rt: &HostRuntime) -> anyhow::Result<()> {
         let line = line?;
         match line.as_str().strip_prefix("case ") {
             Some(text) => {
-                let Some(setting) = setting_of(text) else {
-                    return Err(anyhow!("a case has no setting"));
-                };
+                let setting = setting_of(text).context("a case has no setting")?;
                 case.finish(rt)?;
                 case = Case::new(heap, setting);
             }

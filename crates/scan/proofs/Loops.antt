@@ -7,7 +7,7 @@ use Rattle.board.specs.Strays.{Nearest, Strays, AtLeast, Within}
 use Rattle.board.specs.Findings.{Finds, code_of}
 use Rattle.board.specs.declared.finding.Finding.{Finding}
 use Rattle.scan.specs.Pairs.{Worst}
-use Rattle.scan.specs.Rounds.{Takes}
+use Rattle.scan.proofs.Rounds.{Takes}
 use Rattle.std.specs.List.{Contains}
 
 -- one of the first i + 1 is one of the first i, or the one at i

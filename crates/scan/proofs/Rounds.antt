@@ -1,5 +1,5 @@
 -- A round: the codes of two slices, the one after the other, taken from the front or from the back.
-use Rattle.std.proofs.Common.{◌≡◌, ℕ, Bool, true, false, cond, List, [], ◌∷◌, ◌++◌, length, Some, None, Option, MatchOption, sym, refl, ◌∙◌, inl, inr, ⊎_elim, append_assoc, append-nil, arith}
+use Rattle.std.proofs.Common.{◌≡◌, ℕ, Bool, true, false, cond, List, [], ◌∷◌, ◌++◌, length, not, Some, None, Option, MatchOption, sym, refl, ◌∙◌, inl, inr, ◌⊎◌, ⊎_elim, append_assoc, append-nil, arith}
 use Rattle.std.specs.Prelude.{MatchBool}
 use Rattle.std.specs.List.{Contains}
 use Rattle.std.specs.Iterator.Adapters.{chain_first, chain_second, chain_first_done, chain_second_done, chain_steps, chain_steps_back}
@@ -7,8 +7,9 @@ use Rattle.std.specs.Slice.Iter.{iter_rest, iter_steps, iter_steps_back}
 use Rattle.std.specs.declared.slice.Iter.{Iter}
 use Rattle.std.proofs.lemmas.List.Elements.{Contains-append_left, Contains-append_right, Contains-append_cases, Contains-push, Contains-push_cases}
 use Rattle.std.proofs.lemmas.List.{get_or_default}
+use Rattle.std.proofs.lemmas.Bool.{false≢true}
 use Rattle.board.specs.Lists.{Has}
-use Rattle.scan.specs.Rounds.{to_come, Takes, meets}
+use Rattle.scan.specs.Rounds.{to_come, meets}
 use Rattle.scan.specs.declared.round.Round.{Round}
 use denote.Ref.{Bor}
 
@@ -75,6 +76,12 @@ from_back : (s t : Round) (r : Option (Bor ℕ)) → chain_steps_back iter_steps
 from_back s t r h =
     back_of_both (chain_second_done t.codes) (chain_first_done s.codes) (chain_first_done t.codes) (chain_first s.codes) (chain_first t.codes) (chain_second s.codes) (chain_second t.codes) r h.0 (chain_second_done s.codes) h.1
 
+-- x is taken from the codes, and the others are left
+pub record Takes (codes : List ℕ) (x : ℕ) (left : List ℕ) : Type 0 where
+  pub held : Contains codes x
+  pub others : (q : ℕ) → Contains codes q → Contains left q ⊎ (x ≡ q)
+  pub kept : (q : ℕ) → Contains left q → Contains codes q
+
 takes_front : (codes left : List ℕ) (x : ℕ) → codes ≡ x ∷ left → Takes codes x left
 takes_front codes left x e = rw e (record {
   held = (0, omega arith, refl);
@@ -89,14 +96,28 @@ takes_back codes left x e = rw e (record {
   kept = λ q h. Contains-append_left left (x ∷ []) q h;
 })
 
--- an answer from either end
-pub meets_front : (s t : Round) (r : Option (Bor ℕ)) → chain_steps iter_steps iter_steps s.codes r t.codes → meets s r t
-meets_front s t None h = from_front s t None h
-meets_front s t (Some x) h = takes_front (to_come s) (to_come t) x.now (from_front s t (Some x) h)
+-- from either end, one code is taken
+taken_from : (ahead : Bool) (codes left : List ℕ) (x : ℕ) → MatchBool ahead (codes ≡ left ++ x ∷ []) (codes ≡ x ∷ left) → Takes codes x left
+taken_from true codes left x e = takes_back codes left x e
+taken_from false codes left x e = takes_front codes left x e
 
-pub meets_back : (s t : Round) (r : Option (Bor ℕ)) → chain_steps_back iter_steps_back iter_steps_back s.codes r t.codes → meets s r t
-meets_back s t None h = from_back s t None h
-meets_back s t (Some x) h = takes_back (to_come s) (to_come t) x.now (from_back s t (Some x) h)
+pub takes : (s t : Round) (x : Bor ℕ) → meets s (Some x) t → Takes (to_come s) x.now (to_come t)
+takes s t x h = taken_from s.ahead (to_come s) (to_come t) x.now h.1
+
+-- an answer from the front where the one before it came from the back, and the other way round
+front_answer : (ahead : Bool) (s t : List ℕ) (r : Option (Bor ℕ)) → ahead ≡ false → MatchOption r (s ≡ []) (λ x. s ≡ x.now ∷ t) → MatchOption r (s ≡ []) (λ x. MatchBool ahead (s ≡ t ++ x.now ∷ []) (s ≡ x.now ∷ t))
+front_answer false s t r e h = h
+front_answer true s t r e h = absurd (false≢true (sym e))
+
+back_answer : (ahead : Bool) (s t : List ℕ) (r : Option (Bor ℕ)) → ahead ≡ true → MatchOption r (s ≡ []) (λ x. s ≡ t ++ x.now ∷ []) → MatchOption r (s ≡ []) (λ x. MatchBool ahead (s ≡ t ++ x.now ∷ []) (s ≡ x.now ∷ t))
+back_answer true s t r e h = h
+back_answer false s t r e h = absurd (false≢true e)
+
+pub meets_front : (s t : Round) (r : Option (Bor ℕ)) → s.ahead ≡ false → t.ahead ≡ not s.ahead → chain_steps iter_steps iter_steps s.codes r t.codes → meets s r t
+meets_front s t r a e h = (e, front_answer s.ahead (to_come s) (to_come t) r a (from_front s t r h))
+
+pub meets_back : (s t : Round) (r : Option (Bor ℕ)) → s.ahead ≡ true → t.ahead ≡ not s.ahead → chain_steps_back iter_steps_back iter_steps_back s.codes r t.codes → meets s r t
+meets_back s t r a e h = (e, back_answer s.ahead (to_come s) (to_come t) r a (from_back s t r h))
 
 -- at first all codes of the list are to come: the last part, and then the first
 pub begins : (codes first last coming : List ℕ) → codes ≡ first ++ last → coming ≡ last ++ first → (q : ℕ) → (Has codes q → Contains coming q) × (Contains coming q → Has codes q)

@@ -1,6 +1,5 @@
--- What a round meets: each code of a list once.
-use Rattle.std.specs.Prelude.{◌≡◌, ℕ, ◌⊎◌, cond, List, [], ◌++◌, Option, MatchOption}
-use Rattle.std.specs.List.{Contains}
+-- What a round meets: each code of a list once, from the front and from the back by turns.
+use Rattle.std.specs.Prelude.{◌≡◌, ℕ, not, cond, List, [], ◌∷◌, ◌++◌, Option, MatchOption, MatchBool}
 use Rattle.std.specs.Iterator.Adapters.{chain_first, chain_second, chain_first_done, chain_second_done}
 use Rattle.std.specs.Slice.Iter.{iter_rest}
 use Rattle.scan.specs.declared.round.Round.{Round}
@@ -12,12 +11,8 @@ to_come s =
     cond (chain_first_done s.codes) [] (iter_rest (chain_first s.codes))
     ++ cond (chain_second_done s.codes) [] (iter_rest (chain_second s.codes))
 
--- x is taken from the codes, and the others are left
-pub record Takes (codes : List ℕ) (x : ℕ) (left : List ℕ) : Type 0 where
-  pub held : Contains codes x
-  pub others : (q : ℕ) → Contains codes q → Contains left q ⊎ (x ≡ q)
-  pub kept : (q : ℕ) → Contains left q → Contains codes q
-
--- the next code is one of those that are to come; none where there is none
+-- the next code is the last that is to come where the one before it came from the front, and else the first; none where none is to come
 abbrev pub meets : Round → Option (Bor ℕ) → Round → Type 0
-meets s r t = MatchOption r (to_come s ≡ []) (λ x. Takes (to_come s) x.now (to_come t))
+meets s r t =
+    (t.ahead ≡ not s.ahead)
+    × MatchOption r (to_come s ≡ []) (λ x. MatchBool s.ahead (to_come s ≡ to_come t ++ x.now ∷ []) (to_come s ≡ x.now ∷ to_come t))

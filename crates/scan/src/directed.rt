@@ -14,7 +14,7 @@ use board::list::check_list;
 use board::measure::Measure;
 use board::side::Side;
 
-// The two lists and the measure come as they are lent: a struct of them would say no more.
+// The two lists come as they are lent, and from A to B is the order of the arguments; a struct of them would be made at each call to be taken apart in it.
 // Refuses a list that is out of order or too long, A's before B's, and then an empty one.
 pub(crate) fn check(a: &[u32], b: &[u32]) -> Result<(), ScanFault>
     ensures { MatchResult result (λ _. Scanned a.now b.now) (λ f. ScanRefused a.now b.now (scan_side f) (scan_numbered f)) }

@@ -2,7 +2,7 @@
 ghost use Rattle.scan.specs.Faults.{scan_numbered};
 
 use board::list::ListFault;
-use board::refusal::Refusal;
+use board::refusal::{Numbered, Refusal};
 use board::side::Side;
 
 #[derive(Clone, Copy, PartialEq, Eq, Debug)]
@@ -16,18 +16,11 @@ pub enum ScanFault {
 impl Refusal for ScanFault {
     ghost numbered = { λ f. scan_numbered f };
 
-    fn number(&self) -> u8 {
+    fn numbered(&self) -> Numbered {
         match self {
-            ScanFault::List(_, fault) => fault.number(),
-            ScanFault::NoCell(Side::Film) => 11,
-            ScanFault::NoCell(Side::Drawing) => 12,
-        }
-    }
-
-    fn place(&self) -> usize {
-        match self {
-            ScanFault::List(_, fault) => fault.place(),
-            ScanFault::NoCell(_) => 0,
+            ScanFault::List(_, fault) => fault.numbered(),
+            ScanFault::NoCell(Side::Film) => Numbered::at(11, 0),
+            ScanFault::NoCell(Side::Drawing) => Numbered::at(12, 0),
         }
     }
 }

@@ -1,8 +1,6 @@
 // A round through a list of codes.
-ghost use Rattle.std.specs.Prelude.{ℕ, ◌≤◌, length};
+ghost use Rattle.std.specs.Prelude.{◌≡◌, ◌≤◌, ◌++◌, drop, false, length, take};
 ghost use Rattle.std.specs.Iterator.{item_count};
-ghost use Rattle.std.specs.List.{Contains};
-ghost use Rattle.board.specs.Lists.{Has};
 ghost use Rattle.scan.specs.Rounds.{meets, to_come};
 
 use std::iter::Chain;
@@ -20,7 +18,8 @@ impl<'a> Round<'a> {
     // The codes of the list from this place on, and around.
     pub(crate) fn of(list: &'a [u32], start: usize) -> Round<'a>
         requires { start ≤ length list.now }
-        ensures { (q : ℕ) → (Has list.now q → Contains (to_come result) q) × (Contains (to_come result) q → Has list.now q) }
+        ensures from_here_and_around { to_come result ≡ drop start list.now ++ take start list.now }
+        ensures front_first { result.ahead ≡ false }
     {
         let (before, after) = list.split_at(start);
         Round {

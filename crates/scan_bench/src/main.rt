@@ -28,22 +28,13 @@ impl<M: Measure> Measure for Counted<M> {
     }
 }
 
-// A block of side by side cells, its southwest corner at (x, y).
-fn block(heap: Global, x: u16, y: u16, side: u16) -> Result<Vec<u32>, AllocError> {
-    let cells = (0..side).flat_map(|dy| {
-        (0..side).map(move |dx| Cell {
+// A block of width by height cells, its southwest corner at (x, y).
+fn block(heap: Global, x: u16, y: u16, width: u16, height: u16) -> Result<Vec<u32>, AllocError> {
+    let cells = (0..height).flat_map(|dy| {
+        (0..width).map(move |dx| Cell {
             x: x.wrapping_add(dx),
             y: y.wrapping_add(dy),
         })
-    });
-    Ok(in_order(cells.map(|cell| cell.code()).collect(heap)?))
-}
-
-// A row of cells from (x, y) on to the east.
-fn row(heap: Global, x: u16, y: u16, count: u16) -> Result<Vec<u32>, AllocError> {
-    let cells = (0..count).map(|dx| Cell {
-        x: x.wrapping_add(dx),
-        y,
     });
     Ok(in_order(cells.map(|cell| cell.code()).collect(heap)?))
 }
@@ -69,8 +60,8 @@ fn shown(rt: &HostRuntime, name: &str, a: &[u32], b: &[u32]) -> anyhow::Result<(
 
 fn run(rt: &HostRuntime) -> anyhow::Result<()> {
     let heap = rt.alloc();
-    let drawing = block(heap, 1000, 1000, 64)?;
-    let film = block(heap, 1001, 1000, 64)?;
+    let drawing = block(heap, 1000, 1000, 64, 64)?;
+    let film = block(heap, 1001, 1000, 64, 64)?;
     shown(
         rt,
         "a block and itself",
@@ -83,8 +74,8 @@ fn run(rt: &HostRuntime) -> anyhow::Result<()> {
         film.as_slice(),
         drawing.as_slice(),
     )?;
-    let drawing = row(heap, 500, 700, 4000)?;
-    let film = row(heap, 500, 703, 4000)?;
+    let drawing = block(heap, 500, 700, 4000, 1)?;
+    let film = block(heap, 500, 703, 4000, 1)?;
     shown(
         rt,
         "a row and one three cells below",

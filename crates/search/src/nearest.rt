@@ -19,7 +19,8 @@ use board::square::{PARTS, Square, TOP};
 use store::store::Store;
 
 // Looks at s; what is left to be looked into waits, or where no place is free is walked in depth.
-// The hunt and the list go side by side: a struct over both would hold the list as a loan of a loan.
+// The hunt and the list go side by side, and in no struct of both: the list is the caller's, and the hunt is this call's.
+// The square is on the board by the call: a query takes any square, so its type cannot say so.
 fn offer<B: Store, M: Measure>(hunt: &mut Hunt<B, M>, list: &mut WaitingList<Neighbour>, s: Square)
     requires board { OnBoard s.level s.number }
     requires above { hunt.old.aim.of.level ≤ s.level }

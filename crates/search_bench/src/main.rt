@@ -88,16 +88,13 @@ fn northeast(code: u32) -> Square {
         x: cell.x.saturating_add(1),
         y: cell.y.saturating_add(1),
     };
-    Square {
-        level: 0,
-        number: other.code(),
-    }
+    Square::cell(other.code())
 }
 
 // Cells that lie one to the east and one to the north of a cell of the film.
 fn beside(heap: Global, codes: &[u32]) -> Result<Vec<Square>, AllocError> {
     let codes = codes.iter().copied().take(KEYS as usize);
-    codes.map(|code| northeast(code)).collect(heap)
+    codes.map(northeast).collect(heap)
 }
 
 // The cost of the keys of some squares of one level.

@@ -61,79 +61,80 @@ fn entry(amount: Amount, level: u8, number: u32) -> Neighbour {
     }
 }
 
-// The key and partner with a list in these places.
-fn key_in<S: Store, M: Measure>(
-    of: Square,
-    store: &S,
-    measure: &M,
-    places: &mut [Neighbour],
-) -> (Amount, u32) {
-    nearest(of, store, measure, &mut WaitingList::new(places))
+// The keys of squares in a store, by a measure of this name.
+#[derive(Drop)]
+struct Keys<'a, S, M> {
+    name: &'static str,
+    store: &'a S,
+    measure: &'a M,
 }
 
-// The key and partner of a square, where lists of 1, 3, 4, 5 and 64 places agree on it.
-fn key_of<S: Store, M: Measure>(of: Square, store: &S, measure: &M) -> Option<(Amount, u32)> {
-    let key = key_in(of, store, measure, &mut [Neighbour::default(); 64]);
-    let others = [
-        key_in(of, store, measure, &mut [Neighbour::default(); 1]),
-        key_in(of, store, measure, &mut [Neighbour::default(); 3]),
-        key_in(of, store, measure, &mut [Neighbour::default(); 4]),
-        key_in(of, store, measure, &mut [Neighbour::default(); 5]),
-    ];
-    others.iter().all(|other| *other == key).then_some(key)
-}
-
-fn show_key<S: Store, M: Measure>(
-    rt: &HostRuntime,
-    of: Square,
-    store: &S,
-    measure: &M,
-) -> anyhow::Result<()> {
-    let Square { level, number } = of;
-    match key_of(of, store, measure) {
-        Some((key, partner)) => println!(rt; "    {level} {number}: {key} {partner}")?,
-        None => println!(rt; "    {level} {number}: the lists do not agree")?,
-    }
-    Ok(())
-}
-
-// Every square of the corner, and the squares around it.
-fn show_corner<S: Store, M: Measure>(
-    rt: &HostRuntime,
-    name: &str,
-    store: &S,
-    measure: &M,
-) -> anyhow::Result<()> {
-    println!(rt; "  {name}")?;
-    for level in 0..CORNER {
-        for number in 0..CELLS >> (2 * level) {
-            show_key(rt, Square { level, number }, store, measure)?;
+impl<'a, S: Store, M: Measure> Keys<'a, S, M> {
+    // A store's keys by a measure, under its name.
+    fn of(name: &'static str, store: &'a S, measure: &'a M) -> Keys<'a, S, M> {
+        Keys {
+            name,
+            store,
+            measure,
         }
     }
-    for level in CORNER..=TOP + 1 {
-        show_key(rt, Square { level, number: 0 }, store, measure)?;
-    }
-    Ok(())
-}
 
-// The squares of every level around some cells.
-fn show_wide<S: Store, M: Measure>(
-    rt: &HostRuntime,
-    name: &str,
-    store: &S,
-    measure: &M,
-) -> anyhow::Result<()> {
-    println!(rt; "  {name}")?;
-    for code in FROM {
-        for level in 0..=TOP {
-            let number = code.checked_shr(2 * level as u32).unwrap_or(0);
-            show_key(rt, Square { level, number }, store, measure)?;
-        }
+    // The key and partner with a list in these places.
+    fn key_in(&self, of: Square, places: &mut [Neighbour]) -> (Amount, u32) {
+        nearest(of, self.store, self.measure, &mut WaitingList::new(places))
     }
-    Ok(())
+
+    // The key and partner of a square, where lists of 1, 3, 4, 5 and 64 places agree on it.
+    fn key_of(&self, of: Square) -> Option<(Amount, u32)> {
+        let key = self.key_in(of, &mut [Neighbour::default(); 64]);
+        let others = [
+            self.key_in(of, &mut [Neighbour::default(); 1]),
+            self.key_in(of, &mut [Neighbour::default(); 3]),
+            self.key_in(of, &mut [Neighbour::default(); 4]),
+            self.key_in(of, &mut [Neighbour::default(); 5]),
+        ];
+        others.iter().all(|other| *other == key).then_some(key)
+    }
+
+    // One line for a square.
+    fn show_key(&self, rt: &HostRuntime, of: Square) -> anyhow::Result<()> {
+        let Square { level, number } = of;
+        match self.key_of(of) {
+            Some((key, partner)) => println!(rt; "    {level} {number}: {key} {partner}")?,
+            None => println!(rt; "    {level} {number}: the lists do not agree")?,
+        }
+        Ok(())
+    }
+
+    // Every square of the corner, and the squares around it.
+    fn show_corner(&self, rt: &HostRuntime) -> anyhow::Result<()> {
+        println!(rt; "  {}", self.name)?;
+        for level in 0..CORNER {
+            for number in 0..CELLS >> (2 * level) {
+                self.show_key(rt, Square { level, number })?;
+            }
+        }
+        for level in CORNER..=TOP + 1 {
+            self.show_key(rt, Square { level, number: 0 })?;
+        }
+        Ok(())
+    }
+
+    // The squares of every level around some cells.
+    fn show_wide(&self, rt: &HostRuntime) -> anyhow::Result<()> {
+        println!(rt; "  {}", self.name)?;
+        for code in FROM {
+            for level in 0..=TOP {
+                let number = code.checked_shr(2 * level as u32).unwrap_or(0);
+                self.show_key(rt, Square { level, number })?;
+            }
+        }
+        Ok(())
+    }
 }
 
 // What is done with each cell that a walk meets.
+// A trait and no closure: to call a closure asks that it may be called, and a visitor's `meet` may ask for nothing.
 trait Each {
     fn cell(&mut self, code: u32);
 }
@@ -206,9 +207,9 @@ fn show_cells<S: Store>(rt: &HostRuntime, store: &S) -> anyhow::Result<()> {
 fn show_store<S: Store>(rt: &HostRuntime, name: &str, store: &S) -> anyhow::Result<()> {
     println!(rt; "{name}")?;
     show_cells(rt, store)?;
-    show_corner(rt, "square", store, &Squared)?;
-    show_corner(rt, "sum", store, &Sum)?;
-    show_corner(rt, "greater", store, &Greater)?;
+    Keys::of("square", store, &Squared).show_corner(rt)?;
+    Keys::of("sum", store, &Sum).show_corner(rt)?;
+    Keys::of("greater", store, &Greater).show_corner(rt)?;
     Ok(())
 }
 
@@ -231,10 +232,7 @@ struct Farthest<'a, 'n, B, M> {
 
 impl<B: Store, M: Measure> Each for Farthest<'_, '_, B, M> {
     fn cell(&mut self, code: u32) {
-        let cell = Square {
-            level: 0,
-            number: code,
-        };
+        let cell = Square::cell(code);
         let (distance, partner) = nearest(cell, self.drawing, self.measure, &mut self.neighbours);
         if self.found.is_none_or(|found| found.distance < distance) {
             self.found = Some(Finding {
@@ -323,9 +321,9 @@ fn run(rt: &HostRuntime) -> anyhow::Result<()> {
     show_distance(rt, "square, turned", &drawing, &film, &Squared)?;
     println!(rt; "cells far apart")?;
     show_cells(rt, &wide)?;
-    show_wide(rt, "square", &wide, &Squared)?;
-    show_wide(rt, "sum", &wide, &Sum)?;
-    show_wide(rt, "greater", &wide, &Greater)?;
+    Keys::of("square", &wide, &Squared).show_wide(rt)?;
+    Keys::of("sum", &wide, &Sum).show_wide(rt)?;
+    Keys::of("greater", &wide, &Greater).show_wide(rt)?;
     Ok(())
 }
 

@@ -58,6 +58,7 @@ impl Store for CodeList<'_> {
         let Some(first) = square.first_code() else {
             return Answer::Empty;
         };
+        // the library's binary search: its partition point, asked one by one, takes a fifth longer
         let place = self
             .codes
             .binary_search(&first)

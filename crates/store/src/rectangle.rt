@@ -10,7 +10,7 @@ ghost use Rattle.store.specs.Rectangles.{Covers, Ends, OutOfOrder, Refuses, both
 ghost use Rattle.store.specs.Stores.{Holds, StoreFacts};
 
 use crate::store::{Answer, Store};
-use board::refusal::Refusal;
+use board::refusal::{Numbered, Refusal};
 use board::span::{EDGE, Span};
 use board::square::Square;
 
@@ -44,12 +44,8 @@ pub enum RectangleFault {
 impl Refusal for RectangleFault {
     ghost numbered = { λ f. rectangle_numbered f };
 
-    fn number(&self) -> u8 {
-        14
-    }
-
-    fn place(&self) -> usize {
-        0
+    fn numbered(&self) -> Numbered {
+        Numbered::at(14, 0)
     }
 }
 

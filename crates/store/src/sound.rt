@@ -16,11 +16,7 @@ pub fn holds<S: Store>(store: &S, cell: Cell) -> bool
     ensures decides { Decides result (Holds (S.Store.answers store.now) (code_of cell)) }
     ensures no_empty_square_around_it { result ≡ true → (l n : ℕ) → l ≤ top → Inside l n (code_of cell) → S.Store.answers store.now l n ≢ empty_answer }
 {
-    let square = Square {
-        level: 0,
-        number: cell.code(),
-    };
-    store.query(square).counts()
+    store.query(Square::cell(cell.code())).counts()
 }
 
 // What the answers of any store say of the cells that it holds.

@@ -5,7 +5,7 @@ ghost use Rattle.store.specs.Stores.{StoreFacts, counts};
 
 use board::square::Square;
 
-// What a store says of a square.
+// What a store says of a square. It is made of no bool: true would not say which answer it is.
 #[derive(Clone, Copy, PartialEq, Eq, Debug)]
 pub enum Answer {
     // it holds no cell
@@ -17,6 +17,7 @@ pub enum Answer {
 }
 
 impl Answer {
+    // By cases, so that one that is added has to be decided here.
     // Whether the answer says that the square holds a cell.
     pub fn counts(self) -> bool
         ensures value { result ≡ counts self }

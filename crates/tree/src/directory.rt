@@ -9,7 +9,7 @@ use crate::fault::TreeFault;
 // How many bytes of T stand between two counts.
 const STEP: usize = SPACING / 8;
 
-// How many bits are 1 between one count and the next.
+// How many bits are 1 between one count and the next. By the number of the part, since a last part may be short and has no count.
 fn ones_of_step(t: &Bits, part: usize) -> usize
     requires { part < t.now.len / spacing }
     ensures { ones_before t.now.bytes.now (spacing * part) + result ≡ ones_before t.now.bytes.now (spacing * (part + 1)) }

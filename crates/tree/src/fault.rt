@@ -1,16 +1,28 @@
 // Why a tree, a directory or a writing is refused.
 ghost use Rattle.std.specs.Prelude.{◌≡◌};
-ghost use Rattle.tree.specs.Faults.{tree_numbered, writer_numbered};
+ghost use Rattle.tree.specs.Faults.{part_place, tree_numbered, writer_numbered};
 ghost use Rattle.tree.specs.declared.fault.WriterFault.TheVariants.{List as OfList};
 
 use board::list::ListFault;
-use board::refusal::Refusal;
+use board::refusal::{Numbered, Refusal};
 
 // The two bitmaps of a tree: all levels but the last, and the last.
 #[derive(Clone, Copy, PartialEq, Eq, Debug)]
 pub enum Part {
     T,
     L,
+}
+
+impl Part {
+    // T comes first.
+    fn place(self) -> usize
+        ensures { result ≡ part_place self }
+    {
+        match self {
+            Part::T => 0,
+            Part::L => 1,
+        }
+    }
 }
 
 #[derive(Clone, Copy, PartialEq, Eq, Debug)]
@@ -34,27 +46,16 @@ pub enum TreeFault {
 impl Refusal for TreeFault {
     ghost numbered = { λ f. tree_numbered f };
 
-    fn number(&self) -> u8 {
-        match self {
-            TreeFault::Height => 1,
-            TreeFault::Size => 2,
-            TreeFault::Levels => 3,
-            TreeFault::EmptyBlock(_) => 4,
-            TreeFault::SpareBit(_) => 5,
-            TreeFault::ShortDirectory(_) | TreeFault::WrongCount(_) => 6,
-        }
-    }
-
-    fn place(&self) -> usize {
+    fn numbered(&self) -> Numbered {
         match *self {
-            TreeFault::Height
-            | TreeFault::Size
-            | TreeFault::Levels
-            | TreeFault::SpareBit(Part::T) => 0,
-            TreeFault::SpareBit(Part::L) => 1,
-            TreeFault::EmptyBlock(place)
-            | TreeFault::ShortDirectory(place)
-            | TreeFault::WrongCount(place) => place,
+            TreeFault::Height => Numbered::at(1, 0),
+            TreeFault::Size => Numbered::at(2, 0),
+            TreeFault::Levels => Numbered::at(3, 0),
+            TreeFault::EmptyBlock(place) => Numbered::at(4, place),
+            TreeFault::SpareBit(part) => Numbered::at(5, part.place()),
+            TreeFault::ShortDirectory(place) | TreeFault::WrongCount(place) => {
+                Numbered::at(6, place)
+            }
         }
     }
 }
@@ -82,21 +83,12 @@ impl From<ListFault> for WriterFault {
 impl Refusal for WriterFault {
     ghost numbered = { λ f. writer_numbered f };
 
-    fn number(&self) -> u8 {
-        match self {
-            WriterFault::Height => 1,
-            WriterFault::List(fault) => fault.number(),
-            WriterFault::TooLarge(_) => 8,
-            WriterFault::NoRoom(_) => 9,
-        }
-    }
-
-    fn place(&self) -> usize {
-        match self {
-            WriterFault::Height | WriterFault::NoRoom(Part::T) => 0,
-            WriterFault::List(fault) => fault.place(),
-            WriterFault::TooLarge(index) => *index,
-            WriterFault::NoRoom(Part::L) => 1,
+    fn numbered(&self) -> Numbered {
+        match *self {
+            WriterFault::Height => Numbered::at(1, 0),
+            WriterFault::List(fault) => fault.numbered(),
+            WriterFault::TooLarge(index) => Numbered::at(8, index),
+            WriterFault::NoRoom(part) => Numbered::at(9, part.place()),
         }
     }
 }

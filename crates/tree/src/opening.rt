@@ -67,6 +67,7 @@ fn first_hollow(t: &Bits, l: &Bits) -> Option<usize>
     first_empty(l, from).map(|block| before + BLOCK * block)
 }
 
+// The parts come one by one, as `open` takes them.
 // The two bitmaps of a tree that passes the checks, which come in this order.
 fn check_tree<'a>(
     height: u8,

@@ -19,6 +19,7 @@ impl Tree<'_> {
         if square.level == 0 {
             return 1;
         }
+        // a loop, since a closure may not call the function that it stands in
         let mut sum = 0;
         for k in 0..PARTS {
             if let Some(quarter) = square.quarter(k) {

@@ -1,5 +1,5 @@
 // One set: written, opened, read back, and each of its bits flipped.
-use anyhow::anyhow;
+use board::refusal::Refusal;
 use board::square::Square;
 use std::alloc::Global;
 use store::store::{Answer, Store};
@@ -32,50 +32,57 @@ impl Totals {
 
 // Does the tree hold these cells, and no other?
 fn holds_just(tree: &Tree, codes: &[u32]) -> bool {
-    let held = codes.iter().all(|code| {
-        let cell = Square {
-            level: 0,
-            number: *code,
-        };
-        tree.query(cell) != Answer::Empty
-    });
+    let held = codes.iter().all(|code| { tree.query(Square::cell(*code)) != Answer::Empty });
     held && tree.tally(Square::BOARD) == codes.len() as u64
 }
 
-// A set, and its bitmaps; how many bits they have does not follow from their bytes.
+// A bitmap; how many bits it has does not follow from its bytes.
+#[derive(Drop)]
+struct Bitmap {
+    bytes: Vec<u8>,
+    bits: usize,
+}
+
+impl Bitmap {
+    // So many bits, in just the bytes that they need.
+    fn of(mut bytes: Vec<u8>, bits: usize) -> Bitmap {
+        bytes.truncate(bits.div_ceil(8));
+        Bitmap { bytes, bits }
+    }
+}
+
+// A set, and its bitmaps.
 #[derive(Drop)]
 struct Written<'a> {
     codes: &'a [u32],
     height: u8,
-    t: Vec<u8>,
-    t_bits: usize,
-    l: Vec<u8>,
-    l_bits: usize,
+    t: Bitmap,
+    l: Bitmap,
 }
 
 impl Written<'_> {
     // Flips one bit of a byte of T followed by L.
     fn flip(&mut self, byte: usize, bit: u8) {
         let mask = 1u8.wrapping_shl(bit as u32);
-        if byte < self.t.len() {
-            self.t[byte] ^= mask;
-        } else if byte - self.t.len() < self.l.len() {
-            let at = byte - self.t.len();
-            self.l[at] ^= mask;
+        if byte < self.t.bytes.len() {
+            self.t.bytes[byte] ^= mask;
+        } else if byte - self.t.bytes.len() < self.l.bytes.len() {
+            let at = byte - self.t.bytes.len();
+            self.l.bytes[at] ^= mask;
         }
     }
 
     // Opens the bitmaps: do they hold the cells that they were written from, and no other?
     fn reads_back(&self) -> Result<bool, TreeFault> {
         let mut counts = [0u32; 16];
-        fill_directory(self.t.as_slice(), self.t_bits, &mut counts)?;
+        fill_directory(self.t.bytes.as_slice(), self.t.bits, &mut counts)?;
         let mut tree = Tree::empty();
         tree.open(
             self.height,
-            self.t.as_slice(),
-            self.t_bits,
-            self.l.as_slice(),
-            self.l_bits,
+            self.t.bytes.as_slice(),
+            self.t.bits,
+            self.l.bytes.as_slice(),
+            self.l.bits,
             &counts,
         )?;
         Ok(holds_just(&tree, self.codes))
@@ -95,18 +102,13 @@ impl Written<'_> {
 fn write_down<'a>(heap: Global, codes: &'a [u32], height: u8) -> anyhow::Result<Written<'a>> {
     let mut t = vec![in heap; 0u8; 700]?;
     let mut l = vec![in heap; 0u8; 700]?;
-    let Ok((t_bits, l_bits)) = write(codes, height, t.as_mut_slice(), l.as_mut_slice()) else {
-        return Err(anyhow!("a set is not written"));
-    };
-    t.truncate(t_bits.div_ceil(8));
-    l.truncate(l_bits.div_ceil(8));
+    let written = write(codes, height, t.as_mut_slice(), l.as_mut_slice());
+    let (t_bits, l_bits) = written.map_err(|fault| fault.numbered())?;
     Ok(Written {
         codes,
         height,
-        t,
-        t_bits,
-        l,
-        l_bits,
+        t: Bitmap::of(t, t_bits),
+        l: Bitmap::of(l, l_bits),
     })
 }
 
@@ -123,7 +125,7 @@ pub(crate) fn try_set(
         totals.read_back = totals.read_back.saturating_add(1);
     }
     // by number, since the bytes change while they are gone through
-    for byte in 0..set.t.len().saturating_add(set.l.len()) {
+    for byte in 0..set.t.bytes.len().saturating_add(set.l.bytes.len()) {
         set.try_byte(byte, totals);
     }
     Ok(())

@@ -21,7 +21,7 @@ fn refused<F: Refusal>(heap: Global, fault: &F) -> anyhow::Result<String> {
 
 // The bytes that so many bits take, and at most two more.
 fn shown(bytes: &[u8], bits: usize) -> &[u8] {
-    let end = (bits / 8).saturating_add(if bits % 8 == 0 { 2 } else { 3 });
+    let end = bits.div_ceil(8).saturating_add(2);
     &bytes[0..end.min(bytes.len())]
 }
 

@@ -43,6 +43,6 @@ returns g c = record {
       let some = MatchOption-at_some _ _ c.in_ok-ok_or.field-0 c.in_ok-ok_or.ensures.ok_part c.first_cell-2.ensures.first_or_none in
       did_begin g.A.Store.answers g.A.Store.facts g.B.Store.answers g.B.Store.facts g.M.Measure.amount g.M.Measure.laws v c.start.new.self c.code.result (code_of c.in_ok-ok_or.field-0) h
       (omega (arith, c.capacity-2.ensures.all_places, c.if-capacity-eq0-2.false))
-      (subst (FirstHeld (g.A.Store.answers v.trial.film)) (sym c.code.ensures.value) first)
+      (subst (FirstHeld (g.A.Store.answers v.trial.ground.film)) (sym c.code.ensures.value) first)
       some.held c.start.ensures.started;
 }

@@ -15,7 +15,7 @@ returns-then-film_empty_at-clause-offered g c =
     let v = c.args.self.now in
     record {
       es = [];
-      queues = queues_none g.A.Store.answers g.B.Store.answers g.M.Measure.amount v v (stays_same g.A.Store.answers g.B.Store.answers g.M.Measure.amount v.trial) refl refl;
+      queues = queues_none g.A.Store.answers g.B.Store.answers g.M.Measure.amount v v (stays_same g.A.Store.answers g.B.Store.answers g.M.Measure.amount v.trial.ground) refl refl;
       figures = refl;
       offer = pass_empty (c.if-film_empty_at.ensures.decides.0 refl);
     }
@@ -28,10 +28,10 @@ returns-then-not-improved_by-clause-offered g c =
     record {
       es = [];
       queues = queues_none g.A.Store.answers g.B.Store.answers g.M.Measure.amount v _ k.stays refl refl;
-      figures = k.same_figures;
+      figures = refl;
       offer = subst (λ q. Offer (world g.A.Store.answers g.B.Store.answers g.M.Measure.amount v) v.trial.figures q []) k.of_square
           (pass e.key e.partner k.keyed
-          (λ i. false≢true (c.if-not-improved_by.ensures.decides.1 (subst (λ f. Improves f e.key c.start.result) (sym k.same_figures) (subst (Improves v.trial.figures e.key) (sym c.start.ensures.value) i)))));
+          (λ i. false≢true (c.if-not-improved_by.ensures.decides.1 (subst (Improves v.trial.figures e.key) (sym c.start.ensures.value) i))));
     }
 
 pub invariant_of-self-2-clause-in_order : goal.invariant_of-self-2-clause-in_order
@@ -51,8 +51,8 @@ returns g c =
       offered = record {
         es = e ∷ [];
         queues = queues_one g.A.Store.answers g.B.Store.answers g.M.Measure.amount v _ e k.stays c.add.ensures.same_room a refl;
-        figures = k.same_figures;
+        figures = refl;
         offer = put e (λ z. false≢true (c.if-film_empty_at.ensures.decides.1 z)) k.of_square k.keyed
-            (subst (Improves v.trial.figures e.key) c.start.ensures.value (subst (λ f. Improves f e.key c.start.result) k.same_figures (c.if-not-improved_by.ensures.decides.0 refl)));
+            (subst (Improves v.trial.figures e.key) c.start.ensures.value (c.if-not-improved_by.ensures.decides.0 refl));
       };
     }

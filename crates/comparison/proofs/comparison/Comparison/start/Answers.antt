@@ -1,8 +1,6 @@
-use Rattle.std.proofs.Common.{sym, refl, ap, ◌∙◌, subst, arith}
+use Rattle.std.proofs.Common.{sym, refl, subst, arith}
 use Rattle.std.specs.List.{AllByRecursion}
 use Rattle.board.specs.Squares.{OnBoard}
-use Rattle.comparison.specs.Comparisons.{world}
-use Rattle.comparison.specs.World.{KeyedAt}
 use Rattle.comparison.specs.Waits.{On}
 use Rattle.comparison.proofs.Advancing.{added_order, added_board, started}
 use Rattle.comparison.proofs.comparison.Comparison.start.Goals as goal
@@ -20,7 +18,6 @@ returns g c = record {
       let f = c.figures_of-self.ensures in
       let k = c.suspect_of-board.ensures in
       started g.A.Store.answers g.B.Store.answers g.M.Measure.amount v _ _ c.suspect_of-board.new.self c.clear.new.self c.add.result
-      c.args.film c.suspect_of-board.result (record { world = f.stays.world; idle = f.stays.idle }) k.stays refl
-      (subst (λ h. KeyedAt (world g.A.Store.answers g.B.Store.answers g.M.Measure.amount v) 0 c.args.film h.low h.drawing) (sym k.same_figures) f.keyed) (ap (λ h. h.film) k.same_figures ∙ f.witness) k.keyed k.of_square
+      c.args.film c.suspect_of-board.result f.stays k.stays refl f.keyed f.witness k.keyed k.of_square
       c.clear.ensures.nothing_waits c.clear.ensures.same_room c.add.ensures.gains_or_full c.add.ensures.same_room c.requires.one_place refl refl refl;
 }

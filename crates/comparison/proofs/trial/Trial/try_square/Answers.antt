@@ -8,8 +8,7 @@ returns g c =
     let s = c.args.s in
     let on = c.requires.on_board in
     let met = c.walk.ensures.all_done (record { board = on; above = omega arith; in_order = λ q i j. absurd (never_behind 0 q s on i j) }) in
-    let d = walked_stays g.A.Store.answers g.B.Store.answers g.M.Measure.amount _ c.walk.new.visitor met in
     record {
-      stays = record { world = d.world; idle = d.idle };
+      stays = walked_stays g.A.Store.answers g.B.Store.answers g.M.Measure.amount _ c.walk.new.visitor met;
       tried = walked_tried g.A.Store.answers g.B.Store.answers g.M.Measure.amount _ c.walk.new.visitor met;
     }
