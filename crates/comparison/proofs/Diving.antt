@@ -1,12 +1,11 @@
 -- A walk on which the cells of a square are tried.
 use Rattle.std.proofs.Common.{◌≡◌, ℕ, ◌-◌, ◌≤◌, Bool, false, sym, refl, ◌∙◌, subst, inl, inr, div-one, arith}
-use Rattle.std.proofs.lemmas.Bool.{both_ways}
 use Rattle.board.specs.Squares.{Inside}
 use Rattle.board.specs.declared.square.Square.{Square}
 use Rattle.search.specs.Descents.{Under}
 use Rattle.search.specs.Visits.{Met}
 use Rattle.search.proofs.Laters.{later_same}
-use Rattle.store.specs.Stores.{counts, Holds, StoreFacts}
+use Rattle.store.specs.Stores.{StoreFacts}
 use Rattle.store.specs.declared.store.Answer.{Answer}
 use Rattle.store.specs.declared.store.Answer.TheVariants.{Empty}
 use Rattle.store.proofs.Sounds.{empty_holds_none}
@@ -46,15 +45,6 @@ module _ {A B M : Type 0} (film : A → ℕ → ℕ → Answer) (drawing : B →
   -- a square larger than a cell: where the walk does not go on, it is empty
   pub meets_square : (v : Trial A B M) (s : Square) (on : Bool) → StoreFacts (film v.ground.film) → s.level ≤ 16 → (on ≡ false → film v.ground.film s.level s.number ≡ Empty) → Meets v s on v
   meets_square v s on f h d = record { later = later_same v; done_below = λ e q u i o k p r im. empty_holds_none (film v.ground.film) f s.level s.number q h (d e) (under_cells s.level s.number q u) o }
-
-  -- a cell that is not held
-  pub meets_empty : (v : Trial A B M) (s : Square) → s.level ≤ 0 → counts (film v.ground.film s.level s.number) ≡ false → Meets v s false v
-  meets_empty v s h n = record {
-    later = later_same v;
-    done_below = λ e q u i o k p r im.
-        let z : s.level ≡ 0 = omega arith in
-        both_ways (counts (film v.ground.film 0 s.number)) (subst (λ l. counts (film v.ground.film l s.number) ≡ false) z n) (subst (λ x. Holds (film v.ground.film) x) (under_one s.level s.number q h u) o);
-  }
 
   -- a cell of another square
   pub meets_other : (v : Trial A B M) (s : Square) → s.level ≤ 0 → (Inside v.square.level v.square.number s.number → ⊥) → Meets v s false v

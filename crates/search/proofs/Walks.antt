@@ -1,11 +1,10 @@
 -- A visitor on its walk, turn by turn.
-use Rattle.std.proofs.Common.{◌≡◌, ℕ, ◌<◌, ◌≤◌, true, false, List, [], ◌∷◌, sym, refl, ◌∙◌, subst, inl, inr}
-use Rattle.board.specs.Squares.{OnBoard}
+use Rattle.std.proofs.Common.{◌≡◌, ℕ, ◌<◌, ◌≤◌, true, false, List, ◌∷◌, sym, refl, ◌∙◌, subst}
 use Rattle.board.specs.declared.square.Square.{Square}
-use Rattle.search.specs.Descents.{Under, Outside, Before, ends}
+use Rattle.search.specs.Descents.{Under, Before, ends}
 use Rattle.search.specs.Visits.{Reached, Later, Met}
-use Rattle.search.proofs.Fronts.{Stacked, Covers, Wanted, quarters, stacked_one, stacked_opens, in_order, covers_closes, covers_opens}
-use Rattle.search.proofs.Laters.{later_same, later_onward}
+use Rattle.search.proofs.Fronts.{Stacked, Covers, Wanted, quarters, stacked_opens, in_order, covers_closes, covers_opens}
+use Rattle.search.proofs.Laters.{later_onward}
 
 module _ {V : Type 0} (floor since : V → ℕ) (done : V → ℕ → Type 0) (comes : V → V → Type 0) where
   -- u began to walk over s, is v now, and the squares ss are on the stack
@@ -15,22 +14,6 @@ module _ {V : Type 0} (floor since : V → ℕ) (done : V → ℕ → Type 0) (c
     pub stacked : Stacked (floor u) (ends s) ss
     pub later : Reached floor since done u s → Later floor since done comes u v
     pub covers : Reached floor since done u s → Covers (λ r. r) (floor u) (Wanted (floor u) (since u) s) (done v) ss
-
-  pub walking_begins : (u : V) (s : Square) → floor u ≤ s.level → OnBoard s.level s.number → Walking u u s (s ∷ [])
-  walking_begins u s h b = record {
-    same = refl;
-    start = h;
-    stacked = stacked_one (floor u) s h b;
-    later = λ r. later_same u;
-    covers = λ r q w out. begun r q w out.0;
-  }
-    where
-      begun : Reached floor since done u s → (q : ℕ) → Wanted (floor u) (since u) s q → Outside (floor u) q s → done u q
-      begun r q (inl i) out = absurd (out i)
-      begun r q (inr i) out = r.in_order q i.0 i.1
-
-  pub walking_ends : (u v : V) (s : Square) → Walking u v s [] → Reached floor since done u s → Met floor since done comes u s false v
-  walking_ends u v s k r = record { later = k.later r; done_below = λ _ q i. k.covers r q (inl i) tt }
 
   module _ (u v : V) (s t : Square) (ss : List Square) (k : Walking u v s (t ∷ ss)) where
     -- the walk comes to t

@@ -1,13 +1,13 @@
-use Rattle.std.proofs.Common.{◌≡◌, sym, ◌∙◌, ap₂, arith}
+use Rattle.std.proofs.Common.{◌≡◌, sym, ◌∙◌, ap₂}
 use Rattle.board.specs.Distances.{distance}
 use Rattle.board.specs.Spans.{gap}
 use Rattle.board.specs.Morton.{code, x_of, y_of}
 use Rattle.board.specs.CodeFacts.Codes.{codes_are_exact}
 use Rattle.board.proofs.amounts.distance.Goals as goal
 
-pub returns : goal.returns
+pub returns-clause-value : goal.returns-clause-value
 unfolding distance gap
-returns g c =
+returns-clause-value g c =
     let m = c.args.m.now in
     let a = c.args.a in
     let b = c.args.b in
@@ -15,7 +15,4 @@ returns g c =
     c.abs_diff-dx.ensures ∙ sym (ap₂ gap (codes_are_exact.column a.x a.y) (codes_are_exact.column b.x b.y)) in
     let y : c.abs_diff-dy.result ≡ gap (y_of (code a.x a.y)) (y_of (code b.x b.y)) =
     c.abs_diff-dy.ensures ∙ sym (ap₂ gap (codes_are_exact.row a.x a.y) (codes_are_exact.row b.x b.y)) in
-    record {
-      limited = omega (arith, (g.M.Measure.laws m).limited c.abs_diff-dx.result c.abs_diff-dy.result (omega arith) (omega arith));
-      value = c.amount.ensures.value ∙ ap₂ (g.M.Measure.amount m) x y;
-    }
+    c.amount.ensures.value ∙ ap₂ (g.M.Measure.amount m) x y

@@ -1,26 +1,10 @@
-use Rattle.std.proofs.Common.{◌<◌, ◌∷◌, reverse, sum_by, sym, refl, ap, subst, ◌∙◌, arith}
+use Rattle.std.proofs.Common.{◌<◌, ◌∷◌, sum_by, sym, refl, subst, arith}
 use Rattle.search.specs.Stacks.{held}
 use Rattle.search.specs.Offers.{weight}
-use Rattle.search.proofs.Stacked.{pushed, none_left}
-use Rattle.std.proofs.lemmas.Bool.{false≢true}
+use Rattle.search.proofs.Stacked.{pushed}
 use Rattle.search.proofs.Fronts.{quarters, lighter_taken, lighter_open}
-use Rattle.search.proofs.Walks.{Walking, walking_begins, walking_opens, walking_closes, walking_ends}
+use Rattle.search.proofs.Walks.{Walking, walking_opens, walking_closes}
 use Rattle.search.proofs.walk.walk.Goals as goal
-
-pub loop-t-init : goal.loop-t-init
-loop-t-init g c =
-    let V = g.V.Visitor in
-    let u = c.args.visitor.now in
-    subst (Walking V.floor V.since V.done V.comes u u c.args.s) (sym (pushed c.new-stack.result.items c.push.new.self.items c.args.s c.push.ensures.items ∙ ap (λ ss. c.args.s ∷ reverse ss) c.new-stack.ensures)) (walking_begins V.floor V.since V.done V.comes u c.args.s (omega (arith, c.floor.ensures.lowest_level, c.if-s-floor.false)) (c.if-not-on_board.ensures.decides.0 refl))
-
-pub open-requires : goal.open-requires
-open-requires g c =
-    let V = g.V.Visitor in
-    let ss = held c.pop.new.self in
-    let k = subst (Walking V.floor V.since V.done V.comes c.args.visitor.now c.loop-t.visitor c.args.s) (pushed c.pop.new.self.items c.loop-t.stack.items c.in-Some.t c.in-Some.ensures.items) c.loop-t.invariant in
-    let up = c.if-meet.ensures.stops_at_floor refl in
-    let slot = k.stacked.0 in
-    record { room = omega (arith, slot.room); quarters = (slot.board, omega arith, omega arith) }
 
 pub loop-t-smaller-then-meet : goal.loop-t-smaller-then-meet
 loop-t-smaller-then-meet g c =
@@ -53,9 +37,3 @@ loop-t-preserved g c =
     let m = c.if-meet.ensures in
     let h = subst (Walking V.floor V.since V.done V.comes u c.loop-t.visitor c.args.s) (pushed c.pop.new.self.items c.loop-t.stack.items c.in-Some.t c.in-Some.ensures.items) c.loop-t.invariant in
     walking_closes V.floor V.since V.done V.comes u c.loop-t.visitor c.args.s c.in-Some.t ss h c.meet.new.self m.same_floor m.met
-
-pub returns : goal.returns
-returns g c =
-    let V = g.V.Visitor in
-    let k = subst (Walking V.floor V.since V.done V.comes c.args.visitor.now c.loop-t.visitor c.args.s) (none_left c.loop-t.stack.items (λ h. false≢true (c.in_default.ensures.variant.1 h))) c.loop-t.invariant in
-    record { same_floor = k.same; all_done = walking_ends V.floor V.since V.done V.comes c.args.visitor.now c.loop-t.visitor c.args.s k }

@@ -15,9 +15,9 @@ overflow_cast-result c =
     let b = c.if-not-on_board.ensures.decides.0 refl in
     omega (arith, code_fits s.level s.number b, c.start.ensures.value, on_board_starts s b)
 
-pub returns : goal.returns
-returns c =
+pub returns-clause-first_of_its_cells : goal.returns-clause-first_of_its_cells
+returns-clause-first_of_its_cells c =
     let s = c.args.self in
     let b : OnBoard s.level s.number = c.if-not-on_board.ensures.decides.0 refl in
     let e = c.start.ensures.value ∙ on_board_starts s b in
-    record { place = (b, e); first_of_its_cells = rw e (first_inside s.level s.number, λ p h. first-least s.level s.number p h) }
+    rw e (first_inside s.level s.number, λ p h. first-least s.level s.number p h)

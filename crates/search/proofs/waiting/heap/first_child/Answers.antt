@@ -5,19 +5,19 @@ use Rattle.std.specs.Cmp.{back_total}
 use Rattle.std.specs.Ordering.{flip_args}
 use Rattle.search.proofs.waiting.heap.first_child.Goals as goal
 
-pub returns-then-s-left : goal.returns-then-s-left
-returns-then-s-left g c =
+pub returns-then-s-left-clause-best : goal.returns-then-s-left-clause-best
+returns-then-s-left-clause-best g c =
     let xs = c.args.s.now in
-    record { bound = omega arith; best = sifts.only_child (flip_args g.T.Ord.cmp) (back_total g.met.T.Ord.total) xs c.args.at (c.args.at * 2 + 1) (length xs) refl (omega arith) }
+    sifts.only_child (flip_args g.T.Ord.cmp) (back_total g.met.T.Ord.total) xs c.args.at (c.args.at * 2 + 1) (length xs) refl (omega arith)
 
-pub returns-then-comes_before : goal.returns-then-comes_before
-returns-then-comes_before g c =
+pub returns-then-comes_before-clause-best : goal.returns-then-comes_before-clause-best
+returns-then-comes_before-clause-best g c =
     let xs = c.args.s.now in
     let e = sifts.either_child (flip_args g.T.Ord.cmp) (back_total g.met.T.Ord.total) xs c.args.at (c.args.at * 2 + 1) (length xs) true refl c.if-comes_before.ensures in
-    record { bound = omega arith; best = subst (λ k. IsGreaterChild (flip_args g.T.Ord.cmp) xs c.args.at k (length xs)) (add-zero (c.args.at * 2 + 1)) e.1 }
+    subst (λ k. IsGreaterChild (flip_args g.T.Ord.cmp) xs c.args.at k (length xs)) (add-zero (c.args.at * 2 + 1)) e.1
 
-pub returns : goal.returns
-returns g c =
+pub returns-clause-best : goal.returns-clause-best
+returns-clause-best g c =
     let xs = c.args.s.now in
     let e = sifts.either_child (flip_args g.T.Ord.cmp) (back_total g.met.T.Ord.total) xs c.args.at (c.args.at * 2 + 1) (length xs) false refl c.if-comes_before.ensures in
-    record { bound = omega arith; best = e.1 }
+    e.1

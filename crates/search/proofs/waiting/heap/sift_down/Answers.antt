@@ -10,12 +10,12 @@ use Rattle.search.proofs.waiting.heap.sift_down.Goals as goal
 pub loop-at-init : goal.loop-at-init
 loop-at-init g c = (IsPermutation-refl c.args.s.now, sifts.sink_begins (flip_args g.T.Ord.cmp) (back_total g.met.T.Ord.total) c.args.s.now 0 (length c.args.s.now))
 
-pub returns-then-not-comes_before : goal.returns-then-not-comes_before
-returns-then-not-comes_before g c =
+pub returns-then-not-comes_before-clause-sinks : goal.returns-then-not-comes_before-clause-sinks
+returns-then-not-comes_before-clause-sinks g c =
     let l = c.loop-at in
     let R = flip_args g.T.Ord.cmp in
     let best = subst (IsGreaterChild R l.s l.at c.first_child-child.result) l.auto.s c.first_child-child.ensures.best in
-    record { shuffled = l.invariant.0; sinks = sifts.sink_rests R (back_total g.met.T.Ord.total) c.args.s.now l.s 0 (length c.args.s.now) l.at c.first_child-child.result best c.if-not-comes_before.ensures l.invariant.1 }
+    sifts.sink_rests R (back_total g.met.T.Ord.total) c.args.s.now l.s 0 (length c.args.s.now) l.at c.first_child-child.result best c.if-not-comes_before.ensures l.invariant.1
 
 pub loop-at-preserved : goal.loop-at-preserved
 loop-at-preserved g c =
@@ -34,7 +34,7 @@ loop-at-preserved g c =
       sifts.sink_steps R (back_total g.met.T.Ord.total) xs ys zs 0 n l.at child (omega arith) b.1 b.2 (omega arith) (omega arith) (told.after ∙ sym (as_core ys l.at child)) best c.if-not-comes_before.ensures l.invariant.1,
     )
 
-pub returns : goal.returns
-returns g c =
+pub returns-clause-sinks : goal.returns-clause-sinks
+returns-clause-sinks g c =
     let l = c.loop-at in
-    record { shuffled = l.invariant.0; sinks = sifts.sink_ends (flip_args g.T.Ord.cmp) (back_total g.met.T.Ord.total) c.args.s.now l.s 0 (length c.args.s.now) l.at (omega arith) l.invariant.1 }
+    sifts.sink_ends (flip_args g.T.Ord.cmp) (back_total g.met.T.Ord.total) c.args.s.now l.s 0 (length c.args.s.now) l.at (omega arith) l.invariant.1

@@ -24,12 +24,12 @@ loop-at-preserved g c =
       sifts.rise_steps (flip_args g.T.Ord.cmp) (back_total g.met.T.Ord.total) xs ys zs c.args.at l.at up l.invariant.1 in' (told.after ∙ sym (as_core ys ((l.at - 1) / 2) l.at)) c.if-comes_before.ensures l.invariant.3,
     )
 
-pub returns-else-comes_before : goal.returns-else-comes_before
-returns-else-comes_before g c =
+pub returns-else-comes_before-clause-rises : goal.returns-else-comes_before-clause-rises
+returns-else-comes_before-clause-rises g c =
     let l = c.loop-at in
-    record { shuffled = l.invariant.2; rises = sifts.rise_rests (flip_args g.T.Ord.cmp) (back_total g.met.T.Ord.total) c.args.s.now l.s c.args.at l.at c.if-comes_before.ensures l.invariant.3 }
+    sifts.rise_rests (flip_args g.T.Ord.cmp) (back_total g.met.T.Ord.total) c.args.s.now l.s c.args.at l.at c.if-comes_before.ensures l.invariant.3
 
-pub returns-after-loop-at : goal.returns-after-loop-at
-returns-after-loop-at g c =
+pub returns-after-loop-at-clause-rises : goal.returns-after-loop-at-clause-rises
+returns-after-loop-at-clause-rises g c =
     let l = c.loop-at in
-    record { shuffled = l.invariant.2; rises = sifts.rise_tops (flip_args g.T.Ord.cmp) (back_total g.met.T.Ord.total) c.args.s.now l.s c.args.at l.at (omega arith) l.invariant.3 }
+    sifts.rise_tops (flip_args g.T.Ord.cmp) (back_total g.met.T.Ord.total) c.args.s.now l.s c.args.at l.at (omega arith) l.invariant.3

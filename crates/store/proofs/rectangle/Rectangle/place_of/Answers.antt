@@ -3,10 +3,10 @@ use Rattle.std.proofs.lemmas.Bool.{false≢true}
 use Rattle.store.proofs.Located.{off_board, on_board_so}
 use Rattle.store.proofs.rectangle.Rectangle.place_of.Goals as goal
 
-pub returns-then-not-on_board : goal.returns-then-not-on_board
-returns-then-not-on_board c =
+pub returns-then-not-on_board-clause-value : goal.returns-then-not-on_board-clause-value
+returns-then-not-on_board-clause-value c =
     let e = off_board c.args.self.now c.args.square.level c.args.square.number (λ b. false≢true (c.if-not-on_board.ensures.decides.1 b)) in
-    record { value = e.0; by_cells = e.1 }
+    e.0
 
 pub returns-then-not-meets : goal.returns-then-not-meets
 returns-then-not-meets c =

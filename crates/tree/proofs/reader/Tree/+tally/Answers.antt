@@ -1,24 +1,20 @@
 use Rattle.std.proofs.Common.{◌≡◌, sym, ◌∙◌, subst, arith}
 use Rattle.tree.specs.Held.{cells_of}
 use Rattle.tree.proofs.Exact.{listed}
-use Rattle.tree.proofs.Walks.{four_pos}
 use Rattle.tree.proofs.Tallying.{Summed, shown_on, summed_all, summed_fits, summed_more, summed_none, tally_cell, tally_none}
 use Rattle.tree.proofs.reader.Tree.+tally.Goals as goal
 use Rattle.tree.proofs.reader.Tree.+tally.Goals.{in-Some, in_default}
 
-pub returns-then-not-shows : goal.returns-then-not-shows
-returns-then-not-shows t c =
+pub returns-then-not-shows-clause-cells_in_the_square : goal.returns-then-not-shows-clause-cells_in_the_square
+returns-then-not-shows-clause-cells_in_the_square t c =
     let s = c.args.square in
-    record { cells_in_the_square = tally_none (cells_of c.args.self.now) s.level s.number (sym c.shows.ensures ∙ c.if-not-shows.true); at_most_all = omega arith }
+    tally_none (cells_of c.args.self.now) s.level s.number (sym c.shows.ensures ∙ c.if-not-shows.true)
 
-pub returns-then-square-eq0 : goal.returns-then-square-eq0
-returns-then-square-eq0 t c =
+pub returns-then-square-eq0-clause-cells_in_the_square : goal.returns-then-square-eq0-clause-cells_in_the_square
+returns-then-square-eq0-clause-cells_in_the_square t c =
     let s = c.args.square in
     let r = c.args.self.now in
-    record {
-      cells_in_the_square = tally_cell (cells_of r) s.level s.number c.if-square-eq0.true (listed r).0 (sym c.shows.ensures ∙ c.if-not-shows.false);
-      at_most_all = four_pos s.level;
-    }
+    tally_cell (cells_of r) s.level s.number c.if-square-eq0.true (listed r).0 (sym c.shows.ensures ∙ c.if-not-shows.false)
 
 pub loop-k-init : goal.loop-k-init
 loop-k-init t c =
