@@ -235,7 +235,7 @@ impl<'a, A: Store, B: Store, M: Measure> Comparison<'a, A, B, M> {
         self.progress.ok_or(Fault::NeverBegun)?;
         let mut steps = 0;
         while self.step().is_ok() {
-            steps = count_on(steps, 1);
+            steps = count_on(steps);
         }
         Ok(steps)
     }

@@ -68,14 +68,21 @@ impl Record {
         ensures taken { result.taken ≡ counted self.taken 1 }
     {
         Record {
-            queued: count_on(self.queued, queued),
-            taken: count_on(self.taken, 1),
+            queued: count_more(self.queued, queued),
+            taken: count_on(self.taken),
         }
     }
 }
 
+// One more, up to the limit.
+pub fn count_on(n: u64) -> u64
+    ensures value { result ≡ counted n 1 }
+{
+    count_more(n, 1)
+}
+
 // So many more, up to the limit.
-pub fn count_on(n: u64, more: u64) -> u64
+pub fn count_more(n: u64, more: u64) -> u64
     ensures value { result ≡ counted n more }
 {
     n.saturating_add(more).min(COUNT_LIMIT)

@@ -4,7 +4,7 @@
 use anyhow::Context;
 use board::measure::Squared;
 use job::line::film_line;
-use samples::films::film_of;
+use samples::films::read_film;
 use std::io::{BufRead, BufReader};
 
 fn run(rt: &HostRuntime) -> anyhow::Result<()> {
@@ -13,8 +13,8 @@ fn run(rt: &HostRuntime) -> anyhow::Result<()> {
         let line = line?;
         let films = line.as_str().split_once(' ');
         let (film, drawing) = films.context("a line has no two films")?;
-        let film = film_of(heap, film)?;
-        let drawing = film_of(heap, drawing)?;
+        let film = read_film(heap, film)?;
+        let drawing = read_film(heap, drawing)?;
         rt.print(film_line(heap, film.as_slice(), drawing.as_slice(), &Squared)?)?;
     }
     Ok(())

@@ -47,13 +47,16 @@ fn command_of(words: &[&str]) -> Option<Command> {
 pub fn read_line(line: &str) -> Result<Option<Command>, UnknownLine> {
     let mut words = ArrayVec::<&str, WORDS>::new();
     for word in line.split_whitespace() {
+        // a remark is told by its first word, so that no other of it is looked for
+        if words.is_empty() && word.starts_with("#") {
+            return Ok(None);
+        }
         if words.try_push(word).is_err() {
             break;
         }
     }
     match words.as_slice() {
         [] => Ok(None),
-        [name, ..] if name.starts_with("#") => Ok(None),
         words => command_of(words).map(Some).ok_or(UnknownLine),
     }
 }

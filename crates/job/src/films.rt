@@ -54,3 +54,17 @@ pub fn compare_films<M: Measure>(
     let films = read_films(heap, a, b)?;
     Ok(scan(films.film.as_slice(), films.drawing.as_slice(), m)?)
 }
+
+#[cfg(test)]
+mod tests {
+    use super::*;
+
+    // The cell (1, 2) has the code 9, the cell (3, 0) the code 5.
+    #[test]
+    fn both_films_are_read(rt: HostRuntime) {
+        let heap = rt.alloc();
+        let films = read_films(heap, &[1, 0, 2, 0], &[3, 0, 0, 0]).expect(&rt, "both are in order");
+        assert_eq!(rt; films.film.as_slice(), [9u32].as_slice());
+        assert_eq!(rt; films.drawing.as_slice(), [5u32].as_slice());
+    }
+}

@@ -64,11 +64,13 @@ fn answers<S: Store>(
         .collect(heap)
 }
 
-// How many cells of the square the store holds, of those in the corner.
+// How many cells of a square of the corner the store holds: those with its codes, from its first one on.
 fn held<S: Store>(store: &S, square: Square) -> usize {
-    (0..CELLS)
+    let first = square.first_code().unwrap_or(0);
+    let cells = 1u32.wrapping_shl(2 * square.level as u32);
+    (first..first.saturating_add(cells))
         .map(Cell::from_code)
-        .filter(|cell| square.holds(*cell) && holds(store, *cell))
+        .filter(|cell| holds(store, *cell))
         .count()
 }
 

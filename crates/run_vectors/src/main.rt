@@ -5,7 +5,7 @@ use anyhow::{Context, anyhow};
 use guide::films::{Setting, guide};
 use guide::kind::Kind;
 use guide::script::{Command, read_line};
-use samples::films::film_of;
+use samples::films::read_film;
 use std::alloc::Global;
 use std::io::{BufRead, BufReader};
 
@@ -55,8 +55,8 @@ impl Case {
     // Takes one more line.
     fn take_line(&mut self, heap: Global, line: &str) -> anyhow::Result<()> {
         match line.split_once(' ') {
-            Some(("a", film)) => self.film = film_of(heap, film)?,
-            Some(("b", drawing)) => self.drawing = film_of(heap, drawing)?,
+            Some(("a", film)) => self.film = read_film(heap, film)?,
+            Some(("b", drawing)) => self.drawing = read_film(heap, drawing)?,
             _ => {
                 let command = read_line(line).map_err(|_| anyhow!("a line is no call"))?;
                 if let Some(command) = command {

@@ -86,7 +86,8 @@ impl<'a, T: Ord + Copy> WaitingList<'a, T> {
     pub fn first(&self) -> Option<T>
         ensures first_or_none { Shown T.Ord.cmp self.now result }
     {
-        self.entries().first().copied()
+        let first = self.entries().first()?;
+        Some(*first)
     }
 
     // Takes the first in order, and frees its place; none where nothing waits.

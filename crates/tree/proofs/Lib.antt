@@ -23,3 +23,4 @@ mod Totals
 mod Tallying
 mod Inscribing
 mod Counting
+mod Walked

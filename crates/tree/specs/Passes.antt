@@ -1,5 +1,5 @@
 -- What the steps of the writer do: one pass over the cells writes a level, block by block.
-use Rattle.std.specs.Prelude.{◌≡◌, ℕ, suc, ◌*◌, ◌/◌, ◌%◌, ◌^◌, ◌<◌, ◌≤◌, Bool, cond, List, [], ◌∷◌, ◌++◌, ◌==◌, ◌≢◌, bit_or, fold, slice_index}
+use Rattle.std.specs.Prelude.{◌≡◌, ℕ, suc, ◌*◌, ◌/◌, ◌%◌, ◌^◌, ◌<◌, ◌≤◌, Bool, cond, List, [], ◌∷◌, ◌++◌, ◌==◌, ◌≢◌, bit_or, slice_index}
 use Rattle.board.specs.Limits.{parts}
 use Rattle.tree.specs.Bitmaps.{bits}
 
@@ -18,10 +18,6 @@ emit l p block (c ∷ cs) =
 -- all blocks of a level, from the square of the first cell on
 abbrev pub row : ℕ → List ℕ → List Bool
 row l codes = emit l (slice_index codes 0 / parts ^ suc l) 0 codes
-
--- a 1 for each quarter, a square of level l, that holds one of the cells
-abbrev pub quarters_held : ℕ → List ℕ → ℕ
-quarters_held l codes = fold (λ b c. bit_or b (2 ^ (c / parts ^ l % parts))) 0 codes
 
 -- blocks were put behind those that xs had before: the bytes behind are as in xs, and half a byte that is left is 0
 pub record Put (xs ys : List ℕ) (before after : ℕ) (blocks : List Bool) : Type 0 where

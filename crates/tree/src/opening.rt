@@ -36,6 +36,8 @@ fn levels_fit(t: &Bits, l: &Bits, height: Height) -> bool
 }
 
 // The first block that has no 1, of those from a given one on.
+// Not inlined: where it stood in its callers, its loop fetched the bytes' place anew for each block.
+#[inline(never)]
 fn first_empty(b: &Bits, from: usize) -> Option<usize>
     ensures { MatchOption result
         ((k : ℕ) → from ≤ k → k < b.now.len / parts → Filled (bits_of b.now) k)

@@ -1,13 +1,17 @@
 // Bytes and numbers as text; - stands for none.
+use anyhow::anyhow;
+use hex::FromHexError;
 use itertools::join;
+use samples::films::pairs;
 use std::alloc::{AllocError, Global};
 
-// The bytes that pairs of digits stand for.
+// The bytes that pairs of small digits stand for; a single sign at the end, as - alone, is passed over.
 pub(crate) fn bytes_of(heap: Global, text: &str) -> anyhow::Result<Vec<u8>> {
-    if text == "-" {
-        return Ok(Vec::new(heap));
+    match pairs(text).map(|pairs| hex::decode(heap, pairs)) {
+        Some(Ok(bytes)) => Ok(bytes),
+        Some(Err(FromHexError::OutOfMemory)) => Err(anyhow::Error::from(AllocError)),
+        _ => Err(anyhow!("a byte is no pair of digits")),
     }
-    Ok(hex::decode(heap, text)?)
 }
 
 // The text, or - where it is empty.
