@@ -1,18 +1,18 @@
 // Films in hexadecimal.
 ghost use Rattle.std.specs.Prelude.{◌≡◌, true, false, [], IfOk, MatchOption, MatchResult};
 ghost use Rattle.hex.specs.Hex.{decode_of};
-ghost use Rattle.samples.specs.Pairs.{capital, film_in, in_pairs};
+ghost use Rattle.samples.specs.Pairs.{film_in, in_pairs, stray};
 
 use hex::FromHexError;
 use std::alloc::{AllocError, Global};
 use std::convert::AsSlice;
 
-// The signs of a text that stand in pairs: one that is left alone at its end is passed over. None where a capital letter stands in a pair, since films are written in small ones.
+// The signs of a text that stand in pairs, where they are digits: one sign that is left alone at its end is passed over. None at the first other sign or capital letter, since films are written in small ones.
 pub fn pairs(text: &str) -> Option<&[u8]>
-    ensures small_or_none { MatchOption result (capital text.now ≡ true) (λ p. (capital text.now ≡ false) × (p.now ≡ in_pairs text.now)) }
+    ensures digits_or_none { MatchOption result (stray text.now ≡ true) (λ p. (stray text.now ≡ false) × (p.now ≡ in_pairs text.now)) }
 {
     let pairs = &text.as_bytes()[..text.len() / 2 * 2];
-    if pairs.iter().any(|sign| sign.is_ascii_uppercase()) {
+    if pairs.iter().any(|sign| sign.is_ascii_uppercase() || !sign.is_ascii_hexdigit()) {
         None
     } else {
         Some(pairs)
