@@ -1,9 +1,8 @@
 -- Films as cases write them: small digits in pairs.
-use Rattle.std.specs.Prelude.{ℕ, ◌*◌, ◌/◌, Bool, List, [], length, take, not, ◌||◌, if◌then◌else◌, Result, Ok, Err}
+use Rattle.std.specs.Prelude.{◌≡◌, ℕ, ◌*◌, ◌/◌, ◌⊎◌, Bool, List, [], length, take, not, ◌||◌}
 use Rattle.std.specs.Char.{is_ascii_hexdigit, is_ascii_uppercase}
 use Rattle.std.specs.List.{list_any}
-use Rattle.hex.specs.declared.error.FromHexError.{FromHexError}
-use Rattle.hex.specs.Hex.{decode_of}
+use Rattle.hex.specs.Hex.{IsBytes, encode_lower}
 
 -- the signs of a text that stand in pairs: one that is left alone at its end is not among them
 abbrev pub in_pairs : List ℕ → List ℕ
@@ -17,10 +16,10 @@ other c = is_ascii_uppercase c || not (is_ascii_hexdigit c)
 abbrev pub stray : List ℕ → Bool
 stray text = list_any other (in_pairs text)
 
-abbrev pub bytes_or_none : Result (List ℕ) FromHexError → List ℕ
-bytes_or_none (Ok bytes) = bytes
-bytes_or_none (Err _) = []
+-- the text writes the film: its pairs are the film's bytes in small digits
+abbrev pub Writes : List ℕ → List ℕ → Type 0
+Writes text film = IsBytes film × (encode_lower film ≡ in_pairs text)
 
--- the film that a text writes: the bytes of its pairs, where each is two small digits
-abbrev pub film_in : List ℕ → List ℕ
-film_in text = if stray text then [] else bytes_or_none (decode_of (in_pairs text))
+-- the film that the text writes, and no byte where it writes none
+abbrev pub WrittenFilm : List ℕ → List ℕ → Type 0
+WrittenFilm text film = Writes text film ⊎ ((film ≡ []) × ((bytes : List ℕ) → Writes text bytes → ⊥))

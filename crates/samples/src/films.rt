@@ -1,7 +1,7 @@
 // Films in hexadecimal.
 ghost use Rattle.std.specs.Prelude.{◌≡◌, true, false, [], IfOk, MatchOption, MatchResult};
 ghost use Rattle.hex.specs.Hex.{decode_of};
-ghost use Rattle.samples.specs.Pairs.{film_in, in_pairs, stray};
+ghost use Rattle.samples.specs.Pairs.{WrittenFilm, in_pairs, stray};
 
 use hex::FromHexError;
 use std::alloc::{AllocError, Global};
@@ -31,7 +31,7 @@ pub fn film_of<T: AsSlice<u8> + Drop>(heap: Global, text: T) -> Result<Vec<u8>, 
 
 // A film as the cases write it: the bytes of its pairs of small digits; none for another text.
 pub fn read_film(heap: Global, text: &str) -> Result<Vec<u8>, AllocError>
-    ensures small_pairs_or_none { IfOk result (λ film. film.items ≡ film_in text.now) }
+    ensures film_that_is_written { IfOk result (λ film. WrittenFilm text.now film.items) }
 {
     match pairs(text) {
         Some(pairs) => film_of(heap, pairs),
