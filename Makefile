@@ -29,5 +29,5 @@ guide:
 	@sh examples/run.sh "$(or $(A),examples/scratched.cells)" "$(or $(B),examples/drawing.cells)" filmguide < "$(SCRIPT)"
 
 test:
-	@echo "make test: the whole gate; from nothing it takes some twenty minutes on four processors, longer on two" >&2
+	@echo "make test: the whole gate; from nothing it takes some half an hour on four processors, longer on two" >&2
 	@bash .ci/run
